@@ -1,0 +1,13 @@
+pub mod Facts
+pub mod Invariant
+pub mod Merging
+pub mod Taking
+pub mod Growing
+pub mod Kept
+pub mod Induct
+pub mod Closed
+pub mod Listed
+pub mod Sums
+pub mod Ends
+pub mod Tables
+pub mod Slots

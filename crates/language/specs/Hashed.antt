@@ -1,0 +1,11 @@
+-- The hash of a node: arithmetic over its words, left to right. It only says in which bucket of the table a key is kept, so no answer depends on it.
+-- Assumes nothing.
+use mathlib.Core.List.{foldl}
+use Prim.Native.Nat.{ℕ, _+_, _*_, _%_}
+use Rattle.language.specs.Term.{Term, words}
+
+abbrev pub mixed : ℕ → ℕ → ℕ
+mixed h w = (h * 2654435769 + w) % 4294967296
+
+unfoldable pub hash : Term → ℕ
+hash t = foldl mixed 0 (words t)

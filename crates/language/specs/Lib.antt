@@ -1,0 +1,6 @@
+pub mod Term
+pub mod Ordered
+pub mod Sorted
+pub mod Hashed
+pub mod Struct
+pub mod Loops

@@ -1,0 +1,10 @@
+pub mod Tests
+pub mod Options
+pub mod Members
+pub mod Reads
+pub mod Relabel
+pub mod Keeps
+pub mod Sorted
+pub mod Sums
+pub mod Stores
+pub mod Parts

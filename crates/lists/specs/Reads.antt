@@ -1,0 +1,69 @@
+-- What stands at an index of a list: `at` for words, and the laws of `getD` that the library lacks.
+-- Assumes nothing.
+use mathlib.Core.Path.{_≡_, refl, sym, ap, _∙_, subst}
+use mathlib.Core.Logic.{_≢_, _⊎_, inl, inr, ⊎-elim}
+use mathlib.Core.List.{List, [], _∷_, _++_, map}
+use Prim.Native.Nat.{ℕ, zero, suc, _+_, _≤_, _<_, zero-le, suc-le-suc}
+use native.Mathlib.Decide.{decLt}
+use native.Mathlib.Omega.{arith}
+use lib.ListN.{length, getD, set, length-append, List·getD-append}
+use lib.Seq.{getD-set-same, getD-set-other, getD-append-add}
+use Rattle.lists.specs.Tests.{eq-or}
+
+-- the word at i, and 0 past the end
+abbrev pub at : List ℕ → ℕ → ℕ
+at l i = getD l i 0
+
+pub at-left : (xs ys : List ℕ) (i : ℕ) → i < length xs → at (xs ++ ys) i ≡ at xs i
+at-left xs ys i h = List·getD-append xs ys 0 i h
+
+pub at-right : (xs ys : List ℕ) (i k : ℕ) → i ≡ length xs + k → at (xs ++ ys) i ≡ at ys k
+at-right xs ys i k e = rw e (getD-append-add xs ys k 0)
+
+module _ {A : Type 0} where
+  -- one more at the end, equal to what is read past the end
+  pub getD-more : (d : ℕ → A) (l : List A) (i : ℕ) → getD (l ++ (d (length l) ∷ [])) i (d i) ≡ getD l i (d i)
+  getD-more d [] zero = refl
+  getD-more d [] (suc i) = refl
+  getD-more d (x ∷ l) zero = refl
+  getD-more d (x ∷ l) (suc i) = getD-more (λ n. d (suc n)) l i
+
+  pub getD-map-or : (f : A → A) (d : A) (l : List A) (i : ℕ) → (length l ≤ i → f d ≡ d) → getD (map f l) i d ≡ f (getD l i d)
+  getD-map-or f d [] i h = sym (h zero-le)
+  getD-map-or f d (x ∷ l) zero h = refl
+  getD-map-or f d (x ∷ l) (suc i) h = getD-map-or f d l i (λ le. h (suc-le-suc le))
+
+  pub getD-set-cases : (l : List A) (r : ℕ) (v : A) (j : ℕ) (d : A) → ((j ≡ r) × (getD (set l r v) j d ≡ v)) ⊎ (getD (set l r v) j d ≡ getD l j d)
+  getD-set-cases [] r v j d = inr refl
+  getD-set-cases (x ∷ l) zero v zero d = inl (refl, refl)
+  getD-set-cases (x ∷ l) zero v (suc j) d = inr refl
+  getD-set-cases (x ∷ l) (suc r) v zero d = inr refl
+  getD-set-cases (x ∷ l) (suc r) v (suc j) d = up (getD-set-cases l r v j d)
+    where
+      up : ((j ≡ r) × (getD (set l r v) j d ≡ v)) ⊎ (getD (set l r v) j d ≡ getD l j d) → ((suc j ≡ suc r) × (getD (set l r v) j d ≡ v)) ⊎ (getD (set l r v) j d ≡ getD l j d)
+      up (inl e) = inl (ap suc (e .0), e .1)
+      up (inr e) = inr e
+
+  -- a row of lists, of which one was replaced: what holds of the new one at r, and of the others, holds at every index
+  pub set-all : (P : ℕ → A → Type 0) (l : List A) (r : ℕ) (v d : A) → r < length l → P r v → ((j : ℕ) → j ≢ r → P j (getD l j d)) → (j : ℕ) → P j (getD (set l r v) j d)
+  set-all P l r v d h p q j =
+      ⊎-elim
+      (λ (e : j ≡ r). subst (λ (k : ℕ). P k (getD (set l r v) k d)) (sym e) (rw (getD-set-same l r v d h) p))
+      (λ (e : j ≢ r). rw (getD-set-other l r j v d e) (q j e))
+      (eq-or j r)
+
+  pub length-more : (l : List A) (x : A) → length (l ++ (x ∷ [])) ≡ suc (length l)
+  length-more l x = length-append l (x ∷ []) ∙ omega arith
+
+  pub lt-more : (l : List A) (x : A) (i : ℕ) → i < length (l ++ (x ∷ [])) → (i < length l) ⊎ (i ≡ length l)
+  lt-more l x i h = go (decLt i (length l))
+    where
+      h′ : i < length l + 1
+      h′ = rw (length-append l (x ∷ [])) at h
+
+      go : Dec (i < length l) → (i < length l) ⊎ (i ≡ length l)
+      go (yes k) = inl k
+      go (no k) = inr (omega (arith, h′))
+
+pub getD-map-lt : (f : ℕ → ℕ) (l : List ℕ) (p : ℕ) → p < length l → at (map f l) p ≡ f (at l p)
+getD-map-lt f l p h = getD-map-or f 0 l p (λ le. absurd (omega arith))

@@ -1,0 +1,12 @@
+pub mod Form
+pub mod Rule
+pub mod Pass
+pub mod Listing
+pub mod Reads
+pub mod Least
+pub mod Ends
+pub mod Chosen
+pub mod Shown
+pub mod Graphs
+pub mod Adding
+pub mod Size

@@ -1,0 +1,4 @@
+pub mod Graph
+pub mod Machine
+pub mod Classes
+pub mod Forced

@@ -1,0 +1,1 @@
+// The abstract machine of document 01. All of it is in specs/.
