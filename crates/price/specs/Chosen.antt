@@ -1,4 +1,4 @@
--- The nodes that the passes chose passes in no circle, also where prices tie.
+-- The nodes that the passes chose run in no circle, also where prices tie.
 -- Assumes nothing.
 use mathlib.Core.List.{List, [], _∷_}
 use mathlib.Core.Logic.{_≢_, _⊎_, inl, inr}

@@ -10,7 +10,7 @@ use native.Mathlib.Omega.{arith}
 use lib.ListN.{length}
 use Rattle.lists.specs.Keeps.{length-filter, length-upto, upto}
 use Rattle.lists.specs.Members.{Mem, here, there}
-use Rattle.lists.specs.Reads.{lt-more}
+use Rattle.lists.specs.Reads.{at, lt-more}
 use Rattle.language.specs.Term.{Term}
 use Rattle.steps.specs.Classes.{class-nodes, class-roots, number-of-classes}
 use Rattle.steps.specs.Forced.{Made, then}
@@ -21,32 +21,17 @@ use Rattle.closure.specs.Induct.{made-keeps}
 use Rattle.closure.specs.Kept.{made-good}
 use Rattle.closure.specs.Listed.{Node-of, nodes-from, nodes-has, roots-has}
 use Rattle.price.specs.Ends.{end-in-time, passes-final}
+use Rattle.price.specs.Extract.{Form-of, listing, quick-table, table}
 use Rattle.price.specs.Form.{Form, Forms, In, In-each, _then_, form, in-map, no-form}
 use Rattle.price.specs.Least.{attained, least}
-use Rattle.price.specs.Listing.{Listing, Once, Stands-at, cheapest}
-use Rattle.price.specs.Pass.{Best, Passes, Table, final, look, passes}
+use Rattle.price.specs.Listing.{Once, Stands-at}
+use Rattle.price.specs.Pass.{Best, Passes, Table, look}
 use Rattle.price.specs.Rule.{Rule, cost}
 use Rattle.price.specs.Shown.{Shows, final-shows}
 
 -- ---- what the statements say
 
--- f is a form of class r
-abbrev pub Form-of : Graph → Form → ℕ → Type 0
-Form-of g f r = In (Node-of g) f r
-
--- the table after the passes
-abbrev pub table : {P : Type 0} → Rule P → Graph → Table P
-table R g = final R (class-nodes g) (class-roots g)
-
--- the same, to compute with (`quick`)
-abbrev pub quick-table : {P : Type 0} → Rule P → Graph → Table P
-quick-table R g = passes R (class-nodes g) (class-roots g) (suc (ids g)) []
-
--- the cheapest form of class r by the table t
-abbrev pub listing : {P : Type 0} → Graph → Table P → ℕ → Listing
-listing g t r = cheapest t (class-roots g) r
-
--- the listing of class r by the table t has, at its last spot-of, a form of class r, at the price p; each class is listed once
+-- the listing of class r by the table t has, at its last place, a form of class r, at the price p; each class is listed once
 pub record Lists {P : Type 0} (R : Rule P) (g : Graph) (t : Table P) (r : ℕ) (p : P) : Type 0 where
   pub shape : Form
   pub last : ℕ
@@ -56,6 +41,15 @@ pub record Lists {P : Type 0} (R : Rule P) (g : Graph) (t : Table P) (r : ℕ) (
   pub no-more : R .Le (cost R shape) p
   pub no-less : R .Le p (cost R shape)
   pub once : Once (listing g t r)
+
+-- class r has a price: that of one of its forms, and none of its forms is cheaper
+pub record Least-price {P : Type 0} (R : Rule P) (g : Graph) (r : ℕ) : Type 0 where
+  pub best : Best P
+  pub entry : look r (table R g) ≡ some best
+  pub cheapest : Form
+  pub in-class : Form-of g cheapest r
+  pub at-price : cost R cheapest ≡ best .price
+  pub least : (f : Form) → Form-of g f r → R .Le (best .price) (cost R f)
 
 -- ---- children are smaller ids
 
@@ -119,21 +113,27 @@ module _ {P : Type 0} (R : Rule P) {us : List (ℕ × ℕ)} {g : Graph} (M : Mad
   pub quick : quick-table R g ≡ table R g
   quick = passes-final R (class-nodes g) (class-roots g) in-roots (suc (ids g)) (omega (arith, length-filter (λ (i : ℕ). ℕ-discrete (root (g .roots) i) i) (upto (ids g)), length-upto (ids g)))
 
-  -- 2. every id's class has a price in the end: that of one of its forms, and none of its forms is cheaper
-  pub least-price : (i : ℕ) → i < ids g → (b : Best P) × (look (root (g .roots) i) (table R g) ≡ some b)
-      × ((f : Form) × Form-of g f (root (g .roots) i) × (cost R f ≡ b .price)) × ((f : Form) → Form-of g f (root (g .roots) i) → R .Le (b .price) (cost R f))
+  -- 2. every id's class has a price in the end, and it is the least over its finite forms
+  pub least-price : (i : ℕ) → i < ids g → Least-price R g (root (g .roots) i)
   least-price i lt =
       let r = root (g .roots) i in
       let f = formed M i lt in
-      let a = priced (f .0) (f .1) in
+      let a = at-most r (f .0) (f .1) in
       let k = attained R (class-nodes g) (class-roots g) (length (class-roots g)) r (a .0) (a .1) in
-      (a .0, a .1, (k .0, in-map (k .0) (λ q x. Mem x (class-nodes g q)) (Node-of g) r (nodes-from g) (k .1), k .2), λ h m. low (a .0) (a .1) h m)
+      record {
+        best = a .0;
+        entry = a .1;
+        cheapest = k .0;
+        in-class = in-map (k .0) (λ q x. Mem x (class-nodes g q)) (Node-of g) r (nodes-from g) (k .1);
+        at-price = k .2;
+        least = λ h m. low r (a .0) (a .1) h m;
+      }
     where
-      priced : (f : Form) → Form-of g f (root (g .roots) i) → (b : Best P) × (look (root (g .roots) i) (table R g) ≡ some b) × R .Le (b .price) (cost R f)
-      priced f h = least R (class-nodes g) (class-roots g) in-roots (root (g .roots) i) f (in-map f (Node-of g) (λ q x. Mem x (class-nodes g q)) (root (g .roots) i) (nodes-has g) h)
+      at-most : (r : ℕ) (f : Form) → Form-of g f r → (b : Best P) × (look r (table R g) ≡ some b) × R .Le (b .price) (cost R f)
+      at-most r f h = least R (class-nodes g) (class-roots g) in-roots r f (in-map f (Node-of g) (λ q x. Mem x (class-nodes g q)) r (nodes-has g) h)
 
-      low : (b : Best P) → look (root (g .roots) i) (table R g) ≡ some b → (f : Form) → Form-of g f (root (g .roots) i) → R .Le (b .price) (cost R f)
-      low b e f h = let a = priced f h in let z : a .0 ≡ b = cc (a .1, e) in subst (λ (w : Best P). R .Le (w .price) (cost R f)) z (a .2)
+      low : (r : ℕ) (b : Best P) → look r (table R g) ≡ some b → (f : Form) → Form-of g f r → R .Le (b .price) (cost R f)
+      low r b e f h = let a = at-most r f h in let z : a .0 ≡ b = cc (a .1, e) in subst (λ (w : Best P). R .Le (w .price) (cost R f)) z (a .2)
 
   lists : (t : Table P) (r : ℕ) (p : P) → Shows R (class-nodes g) (class-roots g) in-roots t r p → Lists R g t r p
   lists t r p h = record {
@@ -147,6 +147,6 @@ module _ {P : Type 0} (R : Rule P) {us : List (ℕ × ℕ)} {g : Graph} (M : Mad
     once = h .7;
   }
 
-  -- 3. the chosen nodes passes in no circle: the listing shows a cheapest form
+  -- 3. the chosen nodes run in no circle: the listing shows a cheapest form
   pub listed-form : (r : ℕ) (b : Best P) → look r (table R g) ≡ some b → Lists R g (table R g) r (b .price)
   listed-form r b e = lists (table R g) r (b .price) (final-shows R (class-nodes g) (class-roots g) in-roots r b e)

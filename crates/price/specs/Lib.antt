@@ -2,6 +2,7 @@ pub mod Form
 pub mod Rule
 pub mod Pass
 pub mod Listing
+pub mod Extract
 pub mod Reads
 pub mod Least
 pub mod Ends

@@ -1,4 +1,4 @@
--- The listing has, entry its last spot-of, one form: it is of the asked class, and entry its price.
+-- The listing has, at its last place, one form: it is of the asked class, and at its price.
 -- Assumes nothing.
 use mathlib.Core.List.{List, [], _++_, _∷_, map}
 use mathlib.Core.Logic.{_≢_, _⊎_, inl, inr}
@@ -54,7 +54,7 @@ entry-lt p (y ∷ l) x e = go (ℕ-discrete p (length l)) e (entry-lt p l x)
     go (yes q) k ih = omega arith
     go (no n) k ih = let h = ih k in omega arith
 
--- a spot-of counts the nodes as they are written out
+-- a place counts the nodes as they are written out
 pub in-order-length : (l : Listing) → length (in-order l) ≡ length l
 unfolding in-order
 in-order-length [] = refl
@@ -69,7 +69,7 @@ in-order-at p (y ∷ l) x e = go (ℕ-discrete p (length l)) e (in-order-at p l 
     go (yes q) k ih = let i : p ≡ length (in-order l) = omega (arith, in-order-length l) in rw i (node-new (in-order l) (y .1) ∙ some-inj k)
     go (no n) k ih = node-old (in-order l) (y .1) p (omega (arith, entry-lt p l x k, in-order-length l)) ∙ ih k
 
--- what is listed in l is listed in m, entry the same spot-of
+-- what is listed in l is listed in m, at the same place
 pub record Extends (l m : Listing) : Type 0 where
   pub stands : (p : ℕ) (x : Term) → Stands-at l p x → Stands-at m p x
   pub spots : (c p : ℕ) → spot c l ≡ some p → spot c m ≡ some p
@@ -89,7 +89,7 @@ extends-more r x l e = record {
     out : (p : ℕ) (y : Term) → entry p l ≡ some y → p ≡ length l → ⊥
     out p y h i = let k = entry-lt p l y h in omega arith
 
--- ---- one form entry a spot-of
+-- ---- one form at a place
 
 mutual
   unfolding In
@@ -120,7 +120,7 @@ mutual
 -- ---- the listing
 
 module _ {P : Type 0} (R : Rule P) (nodes : ℕ → List Term) (t : Table P) (B : Backed R nodes t) (K : Ranked R nodes t) where
-  -- class c stands entry spot-of p with a form of the class, no dearer than the class
+  -- class c stands at place p with a form of the class, no dearer than the class
   abbrev pub Shown : Listing → ℕ → ℕ → Type 0
   Shown l c p = (f : Form) × (b : Best P) × (look c t ≡ some b) × In (Has R nodes) f c × In (Stands-at l) f p × R .Le (cost R f) (b .price)
 
@@ -262,7 +262,7 @@ module _ {P : Type 0} (R : Rule P) (nodes : ℕ → List Term) (t : Table P) whe
   last (suc n) r D = rw (D .1) (length (each (visit t n) (D .0 .node .kids) []), spot-here r (with-places (each (visit t n) (D .0 .node .kids) []) (D .0 .node)) (each (visit t n) (D .0 .node .kids) []), refl)
 
 module _ {P : Type 0} (R : Rule P) (nodes : ℕ → List Term) (rs : List ℕ) (listed : (r : ℕ) (x : Term) → Mem x (nodes r) → Mem r rs) where
-  -- the listing of class r by the table t has entry its last spot-of a form of the class, entry the price of the class; no class is listed twice
+  -- the listing of class r by the table t has at its last place a form of the class, at the price of the class; no class is listed twice
   abbrev pub Shows : Table P → ℕ → P → Type 0
   Shows t r p = (f : Form) × (m : ℕ) × (suc m ≡ length (cheapest t rs r)) × In (Stands-at (cheapest t rs r)) f m × In (Has R nodes) f r × R .Le (cost R f) p × R .Le p (cost R f) × Once (cheapest t rs r)
 

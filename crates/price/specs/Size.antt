@@ -12,8 +12,9 @@ use Rattle.steps.specs.Forced.{Made, then}
 use Rattle.steps.specs.Graph.{Graph, ids, root}
 use Rattle.price.specs.Adding.{Adding, add-on, adding}
 use Rattle.price.specs.Chosen.{backed}
+use Rattle.price.specs.Extract.{Form-of, table}
 use Rattle.price.specs.Form.{Form, Forms, _then_, form, no-form}
-use Rattle.price.specs.Graphs.{Form-of, Lists, least-price, listed-form, table}
+use Rattle.price.specs.Graphs.{Lists, least-price, listed-form}
 use Rattle.price.specs.Pass.{Best, look}
 use Rattle.price.specs.Rule.{Rule, cost, costs}
 
@@ -104,18 +105,30 @@ mutual
 
 -- ---- 4. demand 2: the size given for a class is the least AstSize of any finite form in it, capped at 2^64 - 1
 
-pub size-least : {us : List (ℕ × ℕ)} {g : Graph} → Made us g → (i : ℕ) → i < ids g
-    → (f : Form) × Form-of g f (root (g .roots) i) × ((h : Form) → Form-of g h (root (g .roots) i) → ast-size f ≤ ast-size h)
-    × ((b : Best ℕ) × (look (root (g .roots) i) (table AstSize g) ≡ some b) × (b .price ≡ min (ast-size f) cap))
+-- f is a form of class r that no form of the class is smaller than, and the size given for the class is f's, capped
+pub record Least-size (g : Graph) (r : ℕ) : Type 0 where
+  pub smallest : Form
+  pub in-class : Form-of g smallest r
+  pub least : (f : Form) → Form-of g f r → ast-size smallest ≤ ast-size f
+  pub best : Best ℕ
+  pub entry : look r (table AstSize g) ≡ some best
+  pub is : best .price ≡ min (ast-size smallest) cap
+
+pub size-least : {us : List (ℕ × ℕ)} {g : Graph} → Made us g → (i : ℕ) → i < ids g → Least-size g (root (g .roots) i)
 size-least {us} {g} M i lt =
     let p = least-price Plain M i lt in
     let s = least-price AstSize M i lt in
-    let f = p .2 .0 in
-    let F : Form-of g f (root (g .roots) i) = p .2 .1 in
-    let k = s .2 .0 in
-    let low : ast-size f ≤ ast-size k = omega (arith, plain-of f, plain-of k, p .2 .2, p .3 k (s .2 .1)) in
-    let e : s .0 .price ≡ min (ast-size f) cap = omega (arith, size-of f, size-of k, s .2 .2, s .3 f F) in
-    (f, F, λ h H. omega (arith, plain-of f, plain-of h, p .2 .2, p .3 h H), (s .0, s .1, e))
+    let f = p .cheapest in
+    let k = s .cheapest in
+    let low : ast-size f ≤ ast-size k = omega (arith, plain-of f, plain-of k, p .at-price, p .least k (s .in-class)) in
+    record {
+      smallest = f;
+      in-class = p .in-class;
+      least = λ h H. omega (arith, plain-of f, plain-of h, p .at-price, p .least h H);
+      best = s .best;
+      entry = s .entry;
+      is = omega (arith, size-of f, size-of k, s .at-price, s .least f (p .in-class));
+    }
 
 -- ---- and the listed form has that size
 

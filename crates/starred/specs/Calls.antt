@@ -15,7 +15,7 @@ use Rattle.steps.specs.Machine.{add-by, close, count, grow, link, merge, run, r
 use Rattle.steps.specs.Machine
 use Rattle.steps.specs.Classes
 use Rattle.price.specs.Adding.{add-on}
-use Rattle.price.specs.Graphs.{listing, quick-table}
+use Rattle.price.specs.Extract.{listing, quick-table}
 use Rattle.price.specs.Listing.{each, enter, form-words, in-order, spot, visit}
 use Rattle.price.specs.Pass.{Best, accept, best, better, look, pass, passes, passes-on, priced, prices, turn, with-price}
 use Rattle.price.specs.Size.{AstSize, cap}
