@@ -1,4 +1,4 @@
--- The hash of a node: arithmetic over its words, left to right. It only says in which bucket of the table a key is kept, so no answer depends on it.
+-- The hash of a node, the port's own (document 01, "What must change shape"): arithmetic over its words, left to right. It only says in which bucket of the table a key is kept, so no answer depends on it.
 -- Assumes nothing.
 use mathlib.Core.List.{foldl}
 use Prim.Native.Nat.{ℕ, _+_, _*_, _%_}

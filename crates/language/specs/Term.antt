@@ -5,13 +5,17 @@ use mathlib.Core.Path.{_≡_, refl, sym, ap}
 use mathlib.Core.List.{List, [], _∷_, _++_, map, head-eq-of-cons-eq, tail-eq-of-cons-eq, cons≢nil}
 use Prim.Native.Nat.{ℕ}
 use native.Mathlib.Decide.{ℕ-discrete}
-use lib.ListN.{length, set}
+use lib.ListN.{getD, length, set}
 use Rattle.lists.specs.Tests.{both, re-dec}
 
 pub record Term : Type 0 where
   pub op : ℕ
   pub payload : ℕ
   pub kids : List ℕ
+
+-- the node at index i; past the end a leaf of operator 0
+abbrev pub term-at : List Term → ℕ → Term
+term-at ts i = getD ts i (record { op = 0; payload = 0; kids = [] })
 
 -- how many children a node may have
 abbrev pub places : ℕ

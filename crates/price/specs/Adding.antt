@@ -1,4 +1,4 @@
--- Rules that add: a weight for the node's head, then the children's prices, left to right, one addition at a time.
+-- Rules that add, as document 01's AstSize does ("The price of a form": "added left to right"): a weight for the node, then the children's prices, one addition at a time.
 -- Nothing is asked of the addition but that it never falls when a part rises and is never less than a part: it may saturate or round.
 -- Assumes nothing.
 use mathlib.Core.List.{List, [], _∷_}

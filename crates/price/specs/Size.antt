@@ -1,4 +1,5 @@
--- AstSize as a rule: 1 plus the children's sizes, added left to right, saturating at 2^64 - 1. And demand 2's sentence on sizes.
+-- AstSize as document 01 has it ("The price of a form"): 1 plus the children's sizes, added left to right, saturating at 2^64 - 1.
+-- Proved: demand 2's sentence on sizes, that the size given for a class is the least AstSize of any finite form in it, capped.
 -- Assumes nothing.
 use mathlib.Core.List.{List, [], _∷_}
 use mathlib.Core.Option.{some}

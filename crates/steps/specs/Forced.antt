@@ -1,4 +1,4 @@
--- Demand 3's two notions. `Forced` is what the requested unions force: equality's laws, and congruence of nodes alike in operator, payload and child count.
+-- Demand 3's two notions, which document 01 cites under "What pins an answer down". `Forced` is what the requested unions force: equality's laws, and congruence of nodes alike in operator, payload and child count.
 -- `Made` says that calls made a graph from fresh. Calls that answer without changing the graph (`find`, `lookup`, an add of a node that is found) need no case.
 -- Assumes nothing.
 use mathlib.Core.List.{List, [], _∷_, _++_}

@@ -7,7 +7,7 @@ use mathlib.Core.List.{List, [], _∷_}
 use Prim.Native.Nat.{ℕ}
 use lib.ListN.{length, getD}
 use Rattle.lists.specs.Tests.{when}
-use Rattle.language.specs.Term.{Term, over-kids, same-term}
+use Rattle.language.specs.Term.{Term, over-kids, same-term, term-at}
 
 pub record Graph : Type 0 where
   pub nodes : List Term  -- each id's node, as it was given
@@ -27,7 +27,7 @@ root rs i = getD rs i i
 
 -- the node of id i, as it was given: `id_to_node`
 unfoldable pub node : List Term → ℕ → Term
-node ns i = getD ns i (record { op = 0; payload = 0; kids = [] })
+node ns i = term-at ns i
 
 -- the parent list of root r
 unfoldable pub uses : List (List ℕ) → ℕ → List ℕ
