@@ -1,14 +1,15 @@
 -- The numbers below n, and the members of a list that pass a test (the library's `filter`).
 -- Assumes nothing.
-use mathlib.Core.Path.{_≡_, refl, sym, ap, _∙_, subst}
-use mathlib.Core.Logic.{_⊎_, inl, inr, ite}
-use mathlib.Core.List.{List, [], _∷_, _++_, filter}
-use Prim.Native.Nat.{ℕ, zero, suc, _+_, _≤_, _<_}
+use mathlib.Core.List.{List, [], _++_, _∷_, filter}
+use mathlib.Core.Logic.{_↔_, _≢_, _⊎_, inl, inr, ite}
+use mathlib.Core.Path.{_∙_, _≡_, ap, refl, subst, sym}
+use Prim.Native.Nat.{_+_, _<_, _≤_, suc, zero, ℕ}
 use native.Mathlib.Decide.{ℕ-discrete}
 use native.Mathlib.Omega.{arith}
-use lib.ListN.{length}
-use Rattle.lists.specs.Members.{Mem, here, there, mem-cases, mem-nil, mem-left, mem-right, mem-append-cases, mem-one}
-use Rattle.lists.specs.Reads.{length-more}
+use lib.ListN.{length, length-append}
+use Rattle.lists.specs.Members.{Mem, here, mem-append-cases, mem-cases, mem-left, mem-nil, mem-one, mem-right, there}
+use Rattle.lists.specs.Reads.{at, length-more}
+use Rattle.lists.specs.Tests.{eq-or, when}
 
 -- ---- the numbers below n, ascending
 
@@ -128,3 +129,47 @@ module _ {A : Type 0} where
   unfoldable pub any : {P : A → Type 0} → ((a : A) → Dec (P a)) → (l : List A) → Dec (One-of P l)
   any t [] = no (λ h. mem-nil (h .1))
   any t (x ∷ l) = any-more x l (t x) (any t l)
+
+-- ---- how many numbers below n pass a test
+
+module _ {P : ℕ → Type 0} (t : (i : ℕ) → Dec (P i)) where
+  pub passes-more : (n : ℕ) → length (filter t (upto (suc n))) ≡ length (filter t (upto n)) + when (t n) 1 0
+  unfolding upto
+  passes-more n =
+      ap length (filter-append t (upto n) (n ∷ []))
+      ∙ length-append (filter t (upto n)) (filter t (n ∷ []))
+      ∙ ap (λ (k : ℕ). length (filter t (upto n)) + k) (last (t n))
+    where
+      last : (d : Dec (P n)) → length (ite {C = List ℕ} d (n ∷ []) []) ≡ when d 1 0
+      last (yes h) = refl
+      last (no h) = refl
+
+-- two tests that agree everywhere but at l, which only the first passes
+module _ {P Q : ℕ → Type 0} (t : (i : ℕ) → Dec (P i)) (s : (i : ℕ) → Dec (Q i)) (l : ℕ) (p : P l) (q : ¬ Q l) (same : (i : ℕ) → i ≢ l → P i ↔ Q i) where
+  agree : (n k j : ℕ) → n ≢ l → k ≡ j → k + when (t n) 1 0 ≡ j + when (s n) 1 0
+  agree n k j h e = go (t n) (s n)
+    where
+      go : (d : Dec (P n)) (f : Dec (Q n)) → k + when d 1 0 ≡ j + when f 1 0
+      go (yes a) (yes b) = omega (arith, e)
+      go (yes a) (no b) = absurd (b (same n h .0 a))
+      go (no a) (yes b) = absurd (a (same n h .1 b))
+      go (no a) (no b) = omega (arith, e)
+
+  passes-before : (n : ℕ) → n ≤ l → length (filter t (upto n)) ≡ length (filter s (upto n))
+  unfolding upto
+  passes-before zero h = refl
+  passes-before (suc n) h = passes-more t n ∙ agree n _ _ (omega arith) (passes-before n (omega arith)) ∙ sym (passes-more s n)
+
+  pub passes-one-less : (n : ℕ) → l < n → length (filter t (upto n)) ≡ suc (length (filter s (upto n)))
+  passes-one-less zero h = absurd (omega arith)
+  passes-one-less (suc n) h = passes-more t n ∙ go (eq-or n l) (passes-one-less n) ∙ ap suc (sym (passes-more s n))
+    where
+      at-l : n ≡ l → (d : Dec (P n)) (e : Dec (Q n)) (k j : ℕ) → k ≡ j → k + when d 1 0 ≡ suc (j + when e 1 0)
+      at-l w (yes a) (yes b) k j f = absurd (q (rw w at b))
+      at-l w (no a) e k j f = absurd (a (rw w p))
+      at-l w (yes a) (no b) k j f = omega arith
+
+      go : (n ≡ l) ⊎ (n ≢ l) → (l < n → length (filter t (upto n)) ≡ suc (length (filter s (upto n))))
+          → length (filter t (upto n)) + when (t n) 1 0 ≡ suc (length (filter s (upto n)) + when (s n) 1 0)
+      go (inl w) ih = at-l w (t n) (s n) _ _ (passes-before n (omega arith))
+      go (inr w) ih = let e = agree n _ _ w (ih (omega arith)) in omega arith

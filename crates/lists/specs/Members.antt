@@ -1,13 +1,14 @@
 -- Membership in a list: the library's, under short names, and what it lacks.
 -- Assumes nothing.
 pub use mathlib.Core.List.{List·Memᴰ as Mem, List·Memᴰ·head as here, List·Memᴰ·tail as there, List·Memᴰ·cases-cons as mem-cases, List·Memᴰ·not-nil as mem-nil, List·Memᴰ·append-cases as mem-append-cases, Memᴰ·append-left as mem-left, Memᴰ·append-right as mem-right, Memᴰ·map as mem-map, Memᴰ·of-map as mem-of-map}
-use mathlib.Core.Path.{_≡_, refl, sym, _∙_}
+use mathlib.Core.List.{List, [], _++_, _∷_, map, reverse, reverse-cons}
 use mathlib.Core.Logic.{_≢_, _⊎_, inl, inr}
-use mathlib.Core.List.{List, [], _∷_, _++_, map, reverse, reverse-cons}
-use Prim.Native.Nat.{ℕ, suc, _≤_, _<_}
+use mathlib.Core.Path.{_∙_, _≡_, refl, sym}
+use Prim.Native.Nat.{_<_, _≤_, suc, ℕ}
 use native.Mathlib.Decide.{ℕ-discrete}
 use native.Mathlib.Omega.{arith}
 use lib.ListN.{length}
+use Rattle.lists.specs.Reads.{at}
 use Rattle.lists.specs.Tests.{when}
 
 module _ {A : Type 0} where
@@ -87,3 +88,8 @@ minus-lt r (q ∷ cs) m = go (ℕ-discrete q r) (mem-cases m) (minus-lt r cs)
     go (yes e) k ih = omega (arith, minus-le r cs)
     go (no n) (inl e) ih = absurd (n (sym e))
     go (no n) (inr k) ih = let h = ih k in omega arith
+
+-- a list with a member is not empty
+pub mem-length : {A : Type 0} {a : A} {l : List A} → Mem a l → 0 < length l
+mem-length {l = []} m = absurd (mem-nil m)
+mem-length {l = x ∷ l} m = omega arith

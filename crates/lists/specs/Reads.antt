@@ -1,13 +1,13 @@
 -- What stands at an index of a list: `at` for words, and the laws of `getD` that the library lacks.
 -- Assumes nothing.
-use mathlib.Core.Path.{_≡_, refl, sym, ap, _∙_, subst}
+use mathlib.Core.List.{List, [], _++_, _∷_, map, reverse, reverse-append}
 use mathlib.Core.Logic.{_≢_, _⊎_, inl, inr, ⊎-elim}
-use mathlib.Core.List.{List, [], _∷_, _++_, map}
-use Prim.Native.Nat.{ℕ, zero, suc, _+_, _≤_, _<_, zero-le, suc-le-suc}
+use mathlib.Core.Path.{_∙_, _≡_, ap, refl, subst, sym}
+use Prim.Native.Nat.{_+_, _<_, _≤_, suc, suc-le-suc, zero, zero-le, ℕ}
 use native.Mathlib.Decide.{decLt}
 use native.Mathlib.Omega.{arith}
-use lib.ListN.{length, getD, set, length-append, List·getD-append}
-use lib.Seq.{getD-set-same, getD-set-other, getD-append-add}
+use lib.ListN.{List·getD-append, getD, length, length-append, set, take}
+use lib.Seq.{getD-append-add, getD-set-other, getD-set-same, take-length, take-suc}
 use Rattle.lists.specs.Tests.{eq-or}
 
 -- the word at i, and 0 past the end
@@ -67,3 +67,16 @@ module _ {A : Type 0} where
 
 pub getD-map-lt : (f : ℕ → ℕ) (l : List ℕ) (p : ℕ) → p < length l → at (map f l) p ≡ f (at l p)
 getD-map-lt f l p h = getD-map-or f 0 l p (λ le. absurd (omega arith))
+
+-- inside a list the default does not matter
+pub getD-any : {A : Type 0} (l : List A) (i : ℕ) (d e : A) → i < length l → getD l i d ≡ getD l i e
+getD-any [] i d e h = absurd (omega arith)
+getD-any (x ∷ l) zero d e h = refl
+getD-any (x ∷ l) (suc i) d e h = getD-any l i d e (omega arith)
+
+-- the reverse of a list begins with its last member
+pub reverse-last : (l : List ℕ) (k : ℕ) → length l ≡ suc k → reverse l ≡ at l k ∷ reverse (take k l)
+reverse-last l k e = ap reverse whole ∙ reverse-append (take k l) (at l k ∷ [])
+  where
+    whole : l ≡ take k l ++ (at l k ∷ [])
+    whole = rw (← take-suc l k 0 (omega arith), ← e) (sym (take-length l))

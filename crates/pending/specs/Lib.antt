@@ -1,0 +1,4 @@
+pub mod Stack
+pub mod Promise
+pub mod Stands
+pub mod Moves
