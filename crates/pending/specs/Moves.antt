@@ -1,17 +1,17 @@
 -- What the words mean: at depth d they stand for a plain list of ids, the last pushed first. Pushing puts ids in front of it, and the two moves
 -- that take the id pushed last leave the rest.
 -- Assumes nothing.
-use mathlib.Core.List.{List, [], _++_, _∷_, reverse}
-use mathlib.Core.Option.{some}
-use mathlib.Core.Path.{_∙_, _≡_, ap, refl, sym}
-use Prim.Native.Nat.{_+_, _-_, _<_, _≤_, suc, ℕ}
+use mathlib.Core.Path.{_≡_, refl, sym, ap, _∙_}
+use mathlib.Core.List.{List, [], _∷_, _++_, reverse}
+use Prim.Native.Nat.{ℕ, suc, _+_, _-_, _<_, _≤_}
 use native.Mathlib.Omega.{arith}
 use lib.ListN.{length, take}
 use lib.Seq.{length-take-le}
-use Rattle.lists.specs.Reads.{at, reverse-last}
+use Rattle.lists.specs.Reads.{at}
+use Rattle.lists.specs.Reads.{reverse-last}
+use Rattle.pending.specs.Stack.{Entries, Stack, stretched, stack-frame, stack-determined}
+use Rattle.pending.specs.Stands.{Stands, none, one, many, stands-map, stands-stretched, total, stands-length, total-le, stands-determined}
 use Rattle.pending.specs.Promise.{Pushes, PushesStretch, Tops}
-use Rattle.pending.specs.Stack.{Entries, Stack, stack-determined, stack-frame, stretched}
-use Rattle.pending.specs.Stands.{Stands, many, none, one, stands-determined, stands-length, stands-map, stands-stretched, total, total-le}
 use Rattle.pending.specs.declared.OnTop.{OnTop}
 use Rattle.pending.specs.declared.OnTop.the-variants.{TopOne, TopMany}
 

@@ -1,21 +1,22 @@
 -- A forest after one id more, and after two of its roots were joined.
 -- Assumes nothing.
-use mathlib.Core.List.{List, [], _++_, _∷_, filter, filter-congr, map}
-use mathlib.Core.Logic.{_↔_, _≢_, _⊎_, inl, inr, ⊎-elim}
-use mathlib.Core.Path.{_∙_, _≡_, ap, sym}
-use Prim.Native.Nat.{_+_, _-_, _<_, suc, zero, ℕ}
+use mathlib.Core.Path.{_≡_, sym, ap, _∙_}
+use mathlib.Core.Logic.{_≢_, _↔_, _⊎_, inl, inr, ⊎-elim}
+use mathlib.Core.List.{List, [], _∷_, _++_, map, filter, filter-congr}
+use Prim.Native.Nat.{ℕ, zero, suc, _+_, _<_, _-_}
 use native.Mathlib.Decide.{ℕ-discrete}
 use native.Mathlib.Numerals.{add-one}
 use native.Mathlib.Omega.{arith}
-use lib.ListN.{List·getD-eq-default, getD, length, length-map, length-set, set}
-use lib.Seq.{getD-set-other, getD-set-same}
-use Rattle.lists.specs.Keeps.{passes-more, passes-one-less, upto}
-use Rattle.lists.specs.Reads.{at, getD-map-or, getD-more, length-more}
-use Rattle.lists.specs.Relabel.{Hit, relabel, relabel-cases, relabel-hit, relabel-miss}
-use Rattle.lists.specs.Tests.{eq-or, when-yes}
-use Rattle.unionfind.specs.Forest.{Forest, class-count, classes-le, parent-of-root, root-low, walk-ends}
-use Rattle.unionfind.specs.Walks.{Ends, walk-root, walk-same}
+use lib.ListN.{length, getD, set, length-set, length-map, List·getD-eq-default}
+use lib.Seq.{getD-set-same, getD-set-other}
+use Rattle.lists.specs.Reads.{at, getD-more, getD-map-or, length-more}
+use Rattle.lists.specs.Relabel.{relabel, relabel-hit, relabel-miss, Hit, relabel-cases}
+use Rattle.lists.specs.Tests.{when-yes, eq-or}
+use Rattle.lists.specs.Keeps.{upto}
+use Rattle.lists.specs.Keeps.{passes-more, passes-one-less}
 use Rattle.unionfind.specs.Words.{walk}
+use Rattle.unionfind.specs.Walks.{Ends, walk-root, walk-same}
+use Rattle.unionfind.specs.Forest.{Forest, class-count, root-low, walk-ends, parent-of-root, classes-le}
 
 -- ---- one id more
 

@@ -1,20 +1,21 @@
 -- What words mean as a union-find: the forest of N ids in C classes with the roots R, where R's place i has the root of id i.
 -- Chains are short: every id reaches its root within N - C links. The words determine C and R.
 -- Assumes nothing.
-use mathlib.Core.List.{List, [], filter}
+use mathlib.Core.Path.{_≡_, refl, sym, ap, _∙_}
 use mathlib.Core.Logic.{_⊎_, inl, inr}
-use mathlib.Core.Path.{_∙_, _≡_, ap, refl, sym}
-use Prim.Native.Nat.{_-_, _<_, _≤_, ℕ}
+use mathlib.Core.List.{List, [], filter}
+use Prim.Native.Nat.{ℕ, _≤_, _<_, _-_}
 use native.Mathlib.Decide.{ℕ-discrete}
 use native.Mathlib.Omega.{arith}
-use lib.ListN.{getD, length}
+use lib.ListN.{length, getD}
 use lib.Seq.{ext-getD}
-use Rattle.lists.specs.Keeps.{length-filter, length-upto, mem-filter, mem-upto, upto}
-use Rattle.lists.specs.Members.{mem-length}
-use Rattle.lists.specs.Reads.{at, getD-any}
+use Rattle.lists.specs.Reads.{at}
 use Rattle.lists.specs.Tests.{lt-or}
-use Rattle.unionfind.specs.Walks.{Ends, ends-more, ends-suc, walk-inside, walk-root}
+use Rattle.lists.specs.Keeps.{upto, length-upto, mem-upto, mem-filter, length-filter}
+use Rattle.lists.specs.Members.{mem-length}
+use Rattle.lists.specs.Reads.{getD-any}
 use Rattle.unionfind.specs.Words.{walk}
+use Rattle.unionfind.specs.Walks.{Ends, walk-root, ends-suc, ends-more, walk-inside}
 
 -- how many ids below N are their own root
 abbrev pub class-count : List ℕ → ℕ → ℕ
