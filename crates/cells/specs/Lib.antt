@@ -1,0 +1,15 @@
+pub mod Pool
+pub mod Writes
+pub mod Pigeon
+pub mod Rows
+pub mod Push
+pub mod Join
+pub mod Remove
+pub mod Empty
+pub mod Free
+pub mod Stretch
+pub mod Cursor
+pub mod Trail
+pub mod Changes
+pub mod Reading
+pub mod Cuts
