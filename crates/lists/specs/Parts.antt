@@ -98,3 +98,9 @@ module _ (ws : List ℕ) (a b e : ℕ) (ab : a ≤ b) (be : b ≤ e) where
       ∙ h j i
       ∙ getD-take (e - a) (drop a ws) j 0 (omega arith)
       ∙ sym (getD-take (b - a) (drop a ws) j 0 i))
+
+-- ---- the front
+
+-- two lists of one length have the same front where they agree at every index of it
+pub take-same : (us ws : List ℕ) (k : ℕ) → length us ≡ length ws → ((j : ℕ) → j < k → at us j ≡ at ws j) → take k us ≡ take k ws
+take-same us ws k e h = ext-getD 0 (take k us) (take k ws) (simp length-take (rw e refl)) (λ j b. let q : j < k = omega (arith, length-take k us) in getD-take k us j 0 q ∙ h j q ∙ sym (getD-take k ws j 0 q))

@@ -1,0 +1,9 @@
+pub mod Arranged
+pub mod Keyed
+pub mod Stretch
+pub mod Ids
+pub mod Turn
+pub mod Merge
+pub mod Run
+pub mod Join
+pub mod Promise
