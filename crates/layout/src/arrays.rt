@@ -1,8 +1,8 @@
-// The parts that are plain arrays: owners, one word for each child place, and scratch, 6n words.
+// The parts that are plain arrays: owners, one word for each child place; scratch, 6n words; and the work area of the sort, 2n words.
 ghost use mathlib.Core.Path.{_≡_};
 ghost use Prim.Native.Nat.{ℕ, _*_, _<_, _^_};
 ghost use lib.ListN.{length, set, replicate};
-ghost use Rattle.layout.specs.Cut.{owners, scratch};
+ghost use Rattle.layout.specs.Cut.{owners, scratch, sorting};
 ghost use Rattle.layout.specs.View.{View, view};
 ghost use Rattle.layout.specs.Lent.{Lent, Stored, Loaded};
 ghost use Rattle.layout.specs.Head.{Fits};
@@ -77,4 +77,29 @@ pub fn clear_scratch(ws: &mut [u32], h: Head)
     let a = 32 + 22 * n + 4 * m;
     let e = a + 6 * n;
     zero(&mut ws[a..e]);
+}
+
+// Word i of the work area of the sort.
+pub fn work(ws: &[u32], h: Head, i: usize) -> usize
+    requires { ⌜ Fits (length (now ws)) h ⌝ }
+    requires { ⌜ i < 2 * h .n ⌝ }
+    ensures { λ r. ⌜ Loaded (view (h .n) (h .m) (now (ws .entry)) .sorting) i r ⌝ }
+{
+    let n = h.n;
+    let m = h.m;
+    let a = 32 + 5 * n + 2 * m;
+    let e = a + 2 * n;
+    load(&ws[a..e], i)
+}
+
+pub fn set_work(ws: &mut [u32], h: Head, i: usize, v: usize)
+    requires { ⌜ Fits (length (now ws)) h ⌝ }
+    requires { ⌜ (i < 2 * h .n) × (v < 2 ^ 32) ⌝ }
+    ensures { λ _. ⌜ Lent sorting (h .n) (h .m) (Stored i v) (now (ws .entry)) (now (ws .exit)) ⌝ }
+{
+    let n = h.n;
+    let m = h.m;
+    let a = 32 + 5 * n + 2 * m;
+    let e = a + 2 * n;
+    store(&mut ws[a..e], i, v);
 }

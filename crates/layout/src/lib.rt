@@ -22,6 +22,8 @@ pub use arrays::owner;
 pub use arrays::scratch;
 pub use arrays::set_owner;
 pub use arrays::set_scratch;
+pub use arrays::set_work;
+pub use arrays::work;
 ghost use mathlib.Core.Path.{_≡_};
 ghost use Prim.Native.Nat.{ℕ, _≤_, _<_};
 ghost use lib.ListN.{length, replicate};

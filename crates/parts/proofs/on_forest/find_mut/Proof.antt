@@ -1,0 +1,22 @@
+use native.Mathlib.Omega.{arith}
+use Rattle.layout.specs.Cut.{forest}
+use Rattle.layout.specs.Lent.{lent-part}
+use borrow.Author.Needs.{needs}
+use Rattle.parts.proofs.on_forest.find_mut.Statement.{statement}
+use Rattle.parts.proofs.on_forest.find_mut.Tie as tie
+
+returns : tie.Need-returns
+returns c = lent-part _ _ _ (c .before .before .find-mut .last .0) (omega arith) forest _ (search needs) (c .before .before .find-mut .ensures)
+
+pub find-mut-spec : {M : Type 1} → statement M
+find-mut-spec =
+    tie.close
+    (tie.spec
+    (λ c. search needs)
+    (λ c. search needs)
+    (λ c. search needs)
+    (λ c. search needs)
+    (λ c. search needs)
+    (λ c κs. search needs)
+    (λ c. search needs)
+    returns)
