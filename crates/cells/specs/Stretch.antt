@@ -7,11 +7,11 @@ use mathlib.Core.Path.{_∙_, _≡_, ap, refl, subst, sym}
 use Prim.Native.Nat.{_+_, _<_, _≤_, suc, ℕ}
 use native.Mathlib.Omega.{arith}
 use lib.ListN.{length, length-append, take}
-use lib.Seq.{getD-take, length-take-le}
+use lib.Seq.{ext-getD, getD-take, length-take-le}
 use Rattle.lists.specs.Reads.{at, at-left, at-right}
 use Rattle.lists.specs.Tests.{eq-or}
 use Rattle.cells.specs.Join.{join-at, join-cases}
-use Rattle.cells.specs.Pool.{Pool, Under, joinL, pushL, row}
+use Rattle.cells.specs.Pool.{Apart, Pool, Under, joinL, pushL, row}
 use Rattle.cells.specs.Push.{push-cases}
 use Rattle.cells.specs.Rows.{is-list}
 
@@ -143,3 +143,19 @@ module _ (ws : List ℕ) (n m : ℕ) (L : List (List ℕ)) (p : Pool ws n m L) (
             ∙ part-link ws n m L xs p (s .part) i (omega (arith, s .size))
             ∙ sym (getD-take k xs i 0 (omega arith));
       }
+
+-- a stretch of at least one cell is determined by its last cell and its length
+pub stretch-determined : (L : List (List ℕ)) → Apart L → (c k : ℕ) (xs ys : List ℕ) → Stretch L c (suc k) xs → Stretch L c (suc k) ys → xs ≡ ys
+stretch-determined L A c k xs ys s t =
+    let r = s .part .run in
+    let q = t .part .run in
+    let ls = s .size in
+    let lt = t .size in
+    let wr = r .within in
+    let wq = q .within in
+    let e : at (row L (s .part .list)) (s .part .from + k) ≡ at (row L (t .part .list)) (t .part .from + k) =
+    r .same k (omega arith) ∙ sym (s .final k refl) ∙ t .final k refl ∙ sym (q .same k (omega arith)) in
+    let o = A .once (s .part .list) (s .part .from + k) (t .part .list) (t .part .from + k) (omega arith) (omega arith) e in
+    let f : s .part .from ≡ t .part .from = omega arith in
+    ext-getD 0 xs ys (ls ∙ sym lt)
+    (λ i h. sym (r .same i h) ∙ ap (λ (x : ℕ). at (row L x) (s .part .from + i)) (o .0) ∙ ap (λ (x : ℕ). at (row L (t .part .list)) (x + i)) f ∙ q .same i (omega arith))

@@ -4,7 +4,7 @@ pub use mathlib.Core.List.{List·Memᴰ as Mem, List·Memᴰ·head as here, List
 use mathlib.Core.List.{List, [], _++_, _∷_, map, reverse, reverse-cons}
 use mathlib.Core.Logic.{_≢_, _⊎_, inl, inr}
 use mathlib.Core.Path.{_∙_, _≡_, refl, sym}
-use Prim.Native.Nat.{_<_, _≤_, suc, ℕ}
+use Prim.Native.Nat.{_<_, _≤_, suc, zero, ℕ}
 use native.Mathlib.Decide.{ℕ-discrete}
 use native.Mathlib.Omega.{arith}
 use lib.ListN.{length}
@@ -93,3 +93,23 @@ minus-lt r (q ∷ cs) m = go (ℕ-discrete q r) (mem-cases m) (minus-lt r cs)
 pub mem-length : {A : Type 0} {a : A} {l : List A} → Mem a l → 0 < length l
 mem-length {l = []} m = absurd (mem-nil m)
 mem-length {l = x ∷ l} m = omega arith
+
+-- ---- members by index
+
+-- what holds at each index holds of each member
+pub all-members : (P : ℕ → Type 0) (xs : List ℕ) → ((i : ℕ) → i < length xs → P (at xs i)) → (x : ℕ) → Mem x xs → P x
+all-members P [] h x m = absurd (mem-nil m)
+all-members P (y ∷ xs) h x m = go (mem-cases m) (all-members P xs (λ i l. h (suc i) (omega arith)) x)
+  where
+    go : (x ≡ y) ⊎ Mem x xs → (Mem x xs → P x) → P x
+    go (inl e) ih = rw e (h 0 (omega arith))
+    go (inr k) ih = ih k
+
+pub mem-at : (l : List ℕ) (i : ℕ) → i < length l → Mem (at l i) l
+mem-at [] i h = absurd (omega arith)
+mem-at (x ∷ l) zero h = here refl
+mem-at (x ∷ l) (suc i) h = there (mem-at l i (omega arith))
+
+pub no-member : {A : Type 0} (l : List A) → ((x : A) → Mem x l → ⊥) → l ≡ []
+no-member [] h = refl
+no-member (x ∷ l) h = absurd (h x (here refl))

@@ -6,7 +6,7 @@ use mathlib.Core.Path.{_∙_, _≡_, ap, refl, subst, sym}
 use Prim.Native.Nat.{_+_, _<_, _≤_, suc, suc-le-suc, zero, zero-le, ℕ}
 use native.Mathlib.Decide.{decLt}
 use native.Mathlib.Omega.{arith}
-use lib.ListN.{List·getD-append, getD, length, length-append, set, take}
+use lib.ListN.{List·getD-append, getD, length, length-append, replicate, set, take}
 use lib.Seq.{getD-append-add, getD-set-other, getD-set-same, take-length, take-suc}
 use Rattle.lists.specs.Tests.{eq-or}
 
@@ -80,3 +80,19 @@ reverse-last l k e = ap reverse whole ∙ reverse-append (take k l) (at l k ∷ 
   where
     whole : l ≡ take k l ++ (at l k ∷ [])
     whole = rw (← take-suc l k 0 (omega arith), ← e) (sym (take-length l))
+
+-- two functions that agree at each index of a list map it alike
+pub map-at : (f g : ℕ → ℕ) (xs : List ℕ) → ((i : ℕ) → i < length xs → f (at xs i) ≡ g (at xs i)) → map f xs ≡ map g xs
+map-at f g [] h = refl
+map-at f g (x ∷ xs) h = let e : f x ≡ g x = h 0 (omega arith) in let t = map-at f g xs (λ i l. h (suc i) (omega arith)) in λ i. e i ∷ t i
+
+pub take-map : (f : ℕ → ℕ) (xs : List ℕ) (k : ℕ) → take k (map f xs) ≡ map f (take k xs)
+take-map f xs zero = refl
+take-map f [] (suc k) = refl
+take-map f (x ∷ xs) (suc k) = ap (λ (l : List ℕ). f x ∷ l) (take-map f xs k)
+
+-- copies of what is read past the end: so it reads everywhere
+pub getD-copies : {A : Type 0} (n i : ℕ) (d : A) → getD (replicate n d) i d ≡ d
+getD-copies zero i d = refl
+getD-copies (suc n) zero d = refl
+getD-copies (suc n) (suc i) d = getD-copies n i d
