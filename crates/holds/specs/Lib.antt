@@ -5,3 +5,5 @@ pub mod Members
 pub mod MembersLaws
 pub mod Nodes
 pub mod Holds
+pub mod Inside
+pub mod HoldsLaws
