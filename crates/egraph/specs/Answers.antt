@@ -1,0 +1,110 @@
+-- What each answer means in document 01's terms ("When a call says no"): a number, 0 for success, and values. A refusal gives its number and no value.
+-- The promises of all calls are stated through these definitions.
+-- Assumes nothing.
+use mathlib.Core.Bool.{Bool, false, true}
+use mathlib.Core.List.{List, [], _∷_}
+use mathlib.Core.Path.{_≡_, ap}
+use Prim.Native.Nat.{ℕ}
+use lib.ListN.{drop, length}
+use Rattle.egraph.specs.declared.CountAnswer.{CountAnswer}
+use Rattle.egraph.specs.declared.CountAnswer.the-variants.{CountIs, CountNot}
+use Rattle.egraph.specs.declared.FindAnswer.{FindAnswer}
+use Rattle.egraph.specs.declared.FindAnswer.the-variants.{FindNot, FindRoot}
+use Rattle.egraph.specs.declared.FlagAnswer.{FlagAnswer}
+use Rattle.egraph.specs.declared.FlagAnswer.the-variants.{FlagNo, FlagNot, FlagYes}
+use Rattle.egraph.specs.declared.Refusal.{Refusal}
+use Rattle.egraph.specs.declared.Refusal.the-variants.{BadHead, BadLimits, BrokenWords, NoRoom, NotRebuilt, TooFewWords, TooLong, TooManyChildren, UnknownId}
+use Rattle.egraph.specs.declared.SetupAnswer.{SetupAnswer}
+use Rattle.egraph.specs.declared.SetupAnswer.the-variants.{SetupDone, SetupNot}
+use Rattle.layout.specs.Cut.{need}
+use Rattle.layout.specs.Head.{GoodHead, HeadIs, HeadSays, head-bad, head-good, head-is, numbers}
+use Rattle.layout.specs.View.{hd}
+use Rattle.layout.specs.declared.Head.{Head}
+use Rattle.layout.specs.declared.HeadRead.{HeadRead}
+use Rattle.layout.specs.declared.HeadRead.the-variants.{HeadBad, HeadGood}
+
+pub record Answer : Type 0 where
+  pub number : ℕ
+  pub values : List ℕ
+
+abbrev pub yes-with : List ℕ → Answer
+yes-with vs = record { number = 0; values = vs }
+
+abbrev pub no-by : ℕ → Answer
+no-by k = record { number = k; values = [] }
+
+-- the nine numbers
+abbrev pub number-of : Refusal → ℕ
+number-of BadLimits = 1
+number-of TooFewWords = 2
+number-of BadHead = 3
+number-of UnknownId = 4
+number-of TooManyChildren = 5
+number-of NoRoom = 6
+number-of NotRebuilt = 7
+number-of TooLong = 8
+number-of BrokenWords = 9
+
+-- ---- the calls' answers
+
+abbrev pub setup-says : SetupAnswer → Answer
+setup-says SetupDone = yes-with []
+setup-says (SetupNot q) = no-by (number-of q)
+
+-- a root
+abbrev pub find-says : FindAnswer → Answer
+find-says (FindRoot i) = yes-with (i .0 ∷ [])
+find-says (FindNot q) = no-by (number-of q)
+
+-- a count
+abbrev pub count-says : CountAnswer → Answer
+count-says (CountIs k) = yes-with (k ∷ [])
+count-says (CountNot q) = no-by (number-of q)
+
+-- yes is 1, no is 0
+abbrev pub flag-says : FlagAnswer → Answer
+flag-says FlagYes = yes-with (1 ∷ [])
+flag-says FlagNo = yes-with (0 ∷ [])
+flag-says (FlagNot q) = no-by (number-of q)
+
+abbrev pub flag : Bool → List ℕ
+flag true = 1 ∷ []
+flag false = 0 ∷ []
+
+-- ---- the ladder of refusals, in document 01's order: refused where Bad, and else what comes after
+
+pub record Else (Bad No Good Next : Type 0) : Type 0 where
+  pub no : Bad → No
+  pub on : Good → Next
+
+-- refused here; let through
+pub stop : {B N G X : Type 0} → B → (B → G → ⊥) → N → Else B N G X
+stop b a n = record { no = λ _. n; on = λ g. absurd (a b g) }
+
+pub pass : {B N G X : Type 0} → G → (B → G → ⊥) → X → Else B N G X
+pass g a x = record { no = λ b. absurd (a b g); on = λ _. x }
+
+-- 3: the words are too short for the head, or its numbers are out of range, or fewer words are lent than those limits need
+abbrev pub Good : List ℕ → Type 0
+Good ws = GoodHead (length ws) (hd ws)
+
+abbrev pub Unless-3 : List ℕ → Type 0 → Type 0 → Type 0
+Unless-3 ws No Next = Else (Good ws → ⊥) No (Good ws) Next
+
+module _ {N X : Type 0} (ws : List ℕ) (r : HeadRead) (s : HeadSays (length ws) (hd ws) r) where
+  pub shut : r ≡ HeadBad → N → Unless-3 ws N X
+  shut e n = stop (head-bad _ _ r s e) (λ b g. b g) n
+
+  pub opened : (h : Head) → r ≡ HeadGood h → (HeadIs (length ws) (hd ws) h → X) → Unless-3 ws N X
+  opened h e x = let i = head-is _ _ r h s e in pass (head-good i) (λ b g. b g) (x i)
+
+-- the numbers that stand in the head of ws
+abbrev pub head-of : List ℕ → Head
+head-of ws = numbers (hd ws)
+
+pub ids-is : {len : ℕ} {l : List ℕ} {h : Head} → HeadIs len l h → h .ids ≡ numbers l .ids
+ids-is p = ap (λ (s : Head). s .ids) (p .is)
+
+-- the words past the need of the limits that stand in ws
+abbrev pub past : List ℕ → List ℕ → List ℕ
+past ws ws′ = drop (need (head-of ws .n) (head-of ws .m)) ws′

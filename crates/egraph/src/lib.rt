@@ -1,0 +1,50 @@
+// The graph: the open calls, over words that the caller lends. Each reads the head into a value, refuses bad input by number, works on the parts, and writes the head
+// back once. Names and argument order follow egg's `EGraph`; `&mut self` is the lent words.
+//
+// What the calls answer is an enum for each kind of answer; specs/Answers.antt gives document 01's number and values for each case.
+use language::Id;
+
+// Why a call says no, in the order of document 01's table, 1 to 9.
+pub enum Refusal {
+    BadLimits,
+    TooFewWords,
+    BadHead,
+    UnknownId,
+    TooManyChildren,
+    NoRoom,
+    NotRebuilt,
+    TooLong,
+    BrokenWords,
+}
+
+pub enum SetupAnswer {
+    SetupDone,
+    SetupNot(Refusal),
+}
+
+pub enum FindAnswer {
+    FindRoot(Id),
+    FindNot(Refusal),
+}
+
+pub enum CountAnswer {
+    CountIs(u32),
+    CountNot(Refusal),
+}
+
+pub enum FlagAnswer {
+    FlagYes,
+    FlagNo,
+    FlagNot(Refusal),
+}
+
+pub mod begin;
+
+pub use begin::setup;
+
+pub mod reads;
+
+pub use reads::clean;
+pub use reads::find;
+pub use reads::is_empty;
+pub use reads::number_of_classes;
