@@ -4,6 +4,8 @@ pub mod ParentsLow
 pub mod Members
 pub mod MembersLaws
 pub mod Nodes
+pub mod NodesLaws
 pub mod Holds
 pub mod Inside
 pub mod HoldsLaws
+pub mod Determined
