@@ -4,7 +4,9 @@ pub mod ParentsLow
 pub mod Members
 pub mod MembersLaws
 pub mod Nodes
+pub mod NodesPut
 pub mod NodesLaws
+pub mod NodesRekey
 pub mod Holds
 pub mod Inside
 pub mod HoldsLaws

@@ -2,26 +2,26 @@
 -- the table under its key, and two classes are joined. And what the parts answer: the node of an id, and the id that the table keeps for a live key.
 -- Assumes nothing.
 use mathlib.Core.List.{List, [], _++_, _∷_, map}
-use mathlib.Core.Logic.{_≢_, _⊎_, inl, inr}
+use mathlib.Core.Logic.{_≢_, inl}
 use mathlib.Core.Option.{Option, none, some}
 use mathlib.Core.Path.{_∙_, _≡_, ap, refl, sym}
 use Prim.Native.Nat.{_<_, ℕ}
 use native.Mathlib.Omega.{arith}
 use lib.ListN.{length, replicate}
-use Rattle.lists.specs.Options.{none≢some, some-inj}
+use Rattle.lists.specs.Options.{none≢some}
 use Rattle.lists.specs.Reads.{length-more}
 use Rattle.lists.specs.Relabel.{relabel}
 use Rattle.language.specs.Struct.{nodeOf}
-use Rattle.language.specs.Term.{Term, same-term, term-at}
+use Rattle.language.specs.Term.{Term, term-at}
 use Rattle.language.specs.declared.Id.{Id}
 use Rattle.steps.specs.Graph.{kept, node, root}
-use Rattle.closure.specs.Facts.{kept-here, kept-past, root-before, root-more}
+use Rattle.closure.specs.Facts.{root-before, root-more}
 use Rattle.closure.specs.Tables.{Agree, Live}
 use Rattle.cells.specs.Empty.{Cleared}
-use Rattle.cells.specs.Pool.{pushL}
 use Rattle.cells.specs.declared.Change.{Change}
 use Rattle.cells.specs.declared.Change.the-variants.{ChangeDone}
 use Rattle.holds.specs.Nodes.{Nodes}
+use Rattle.holds.specs.NodesPut.{nodes-put, vacant-alone}
 use Rattle.rows.specs.Determined.{determined, rows-none}
 use Rattle.rows.specs.Places.{term-new, term-old}
 use Rattle.rows.specs.Promise.{Given, Key, Stored}
@@ -30,7 +30,7 @@ use Rattle.rows.specs.declared.Fetch.the-variants.{FetchDone}
 use Rattle.rows.specs.declared.Fetched.{Fetched}
 use Rattle.table.specs.Asking.{Answers}
 use Rattle.table.specs.Buckets.{bucket-of}
-use Rattle.table.specs.Entering.{Adds, Entered}
+use Rattle.table.specs.Entering.{Entered}
 use Rattle.table.specs.Keys.{not-held-none, table-determined, table-more, table-none}
 use Rattle.table.specs.Table.{Held, not-held-new}
 use Rattle.table.specs.declared.Asked.{Asked}
@@ -126,36 +126,13 @@ module _ (n m : ℕ) (rs ts : List ℕ) (ns : List Term) (roots : List ℕ) (mem
 
   -- ---- an id goes into the table, under a key that the table does not have
 
-  module _ (i : ℕ) (k : Term) (ts′ : List ℕ) (r : Change) (low : i < length ns) (out : Held (D .buckets) i → ⊥) (key : term-at (D .keys) i ≡ k)
-      (live : Live roots k) (free : kept k memo ≡ none) where
-    -- no id in the table has the key
-    enter-new : (y : ℕ) → Held (D .buckets) y → term-at (D .keys) y ≢ term-at (D .keys) i
-    enter-new y h e = none≢some (sym free ∙ D .only k y live h (e ∙ key))
-
-    enter-found : (K : List (List ℕ)) → Adds (D .buckets) K i → (k′ : Term) (y : ℕ) → Live roots k′ → kept k′ ((k, i) ∷ memo) ≡ some y
-        → Held K y × (term-at (D .keys) y ≡ k′)
-    enter-found K a k′ y l e = go (same-term k′ k)
-      where
-        go : Dec (k′ ≡ k) → Held K y × (term-at (D .keys) y ≡ k′)
-        go (yes q) = let is : i ≡ y = some-inj (sym (kept-here k′ k i memo q) ∙ e) in rw (← is) (a .new, key ∙ sym q)
-        go (no q) = let h = D .found k′ y l (sym (kept-past k′ k i memo q) ∙ e) in (a .old y (h .0), h .1)
-
-    enter-only : (K : List (List ℕ)) → Adds (D .buckets) K i → (k′ : Term) (y : ℕ) → Live roots k′ → Held K y → term-at (D .keys) y ≡ k′
-        → kept k′ ((k, i) ∷ memo) ≡ some y
-    enter-only K a k′ y l h e = go (a .from y h)
-      where
-        go : Held (D .buckets) y ⊎ (y ≡ i) → kept k′ ((k, i) ∷ memo) ≡ some y
-        go (inl g) = kept-past k′ k i memo (λ q. enter-new y g (e ∙ q ∙ sym key)) ∙ D .only k′ y l g e
-        go (inr q) = kept-here k′ k i memo (sym e ∙ ap (term-at (D .keys)) q ∙ key) ∙ ap some (sym q)
-
-    pub nodes-enter : Entered ts ts′ n (bucket-of n k) i r → (r ≡ ChangeDone) × (D′ : Nodes n m rs ts′ ns roots ((k, i) ∷ memo)) × (D′ .keys ≡ D .keys)
-    nodes-enter E =
-        let h = E .law (D .keys) (D .buckets) (D .table) (omega (arith, D .rows .keys)) out enter-new (ap (bucket-of n) (sym key)) in
-        let K = pushL (D .buckets) (bucket-of n k) i in (
-          h .0,
-          record { keys = D .keys; rows = D .rows; buckets = K; table = h .1; found = enter-found K (h .2); only = enter-only K (h .2) },
-          refl,
-        )
+  pub nodes-enter : (i : ℕ) (k : Term) (ts′ : List ℕ) (r : Change) → i < length ns → (Held (D .buckets) i → ⊥) → term-at (D .keys) i ≡ k → Live roots k
+      → kept k memo ≡ none → Entered ts ts′ n (bucket-of n k) i r
+      → (r ≡ ChangeDone) × (D′ : Nodes n m rs ts′ ns roots ((k, i) ∷ memo)) × (D′ .keys ≡ D .keys)
+  nodes-enter i k ts′ r low out key live free E =
+      let w = vacant-alone n m rs ts ns roots memo D i k live (inl free) in
+      nodes-put n m rs ts ns roots memo D i k (D .keys) key (λ y ne. refl) (λ k′ l e. absurd (out (D .found k′ i l e .0))) rs ts ts′ r low (D .rows)
+      (record { vacant = w; out = λ h. out (w .from i h) }) E
 
   -- ---- two classes joined: what is live after was live before
 
