@@ -2,8 +2,8 @@
 -- The promises of all calls are stated through these definitions.
 -- Assumes nothing.
 use mathlib.Core.Bool.{Bool, false, true}
-use mathlib.Core.List.{List, [], _∷_}
-use mathlib.Core.Path.{_≡_, ap}
+use mathlib.Core.List.{List, [], _∷_, cons≢nil}
+use mathlib.Core.Path.{_∙_, _≡_, ap, subst, sym}
 use Prim.Native.Nat.{ℕ}
 use lib.ListN.{drop, length}
 use Rattle.egraph.specs.declared.CountAnswer.{CountAnswer}
@@ -16,9 +16,12 @@ use Rattle.egraph.specs.declared.Refusal.{Refusal}
 use Rattle.egraph.specs.declared.Refusal.the-variants.{BadHead, BadLimits, BrokenWords, NoRoom, NotRebuilt, TooFewWords, TooLong, TooManyChildren, UnknownId}
 use Rattle.egraph.specs.declared.SetupAnswer.{SetupAnswer}
 use Rattle.egraph.specs.declared.SetupAnswer.the-variants.{SetupDone, SetupNot}
+use Rattle.egraph.specs.declared.UnionAnswer.{UnionAnswer}
+use Rattle.egraph.specs.declared.UnionAnswer.the-variants.{UnionNo, UnionNot, UnionYes}
+use Rattle.holds.specs.Inside.{Near}
 use Rattle.layout.specs.Cut.{need}
-use Rattle.layout.specs.Head.{GoodHead, HeadIs, HeadSays, head-bad, head-good, head-is, numbers}
-use Rattle.layout.specs.View.{hd}
+use Rattle.layout.specs.Head.{GoodHead, HeadIs, HeadOk, HeadSays, head-bad, head-good, head-is, numbers}
+use Rattle.layout.specs.View.{hd, view, view-rest}
 use Rattle.layout.specs.declared.Head.{Head}
 use Rattle.layout.specs.declared.HeadRead.{HeadRead}
 use Rattle.layout.specs.declared.HeadRead.the-variants.{HeadBad, HeadGood}
@@ -45,6 +48,13 @@ number-of NotRebuilt = 7
 number-of TooLong = 8
 number-of BrokenWords = 9
 
+-- a number is what it is, and success with a value is no refusal
+pub nine : (k : ℕ) → _≡_ {A = Answer} (no-by 9) (no-by k) → k ≡ 9
+nine k e = sym (ap (λ (a : Answer). a .number) e)
+
+pub never : (k v : ℕ) → _≡_ {A = Answer} (yes-with (v ∷ [])) (no-by k) → ⊥
+never k v e = let q : _≡_ {A = List ℕ} (v ∷ []) [] = ap (λ (a : Answer). a .values) e in cons≢nil q
+
 -- ---- the calls' answers
 
 abbrev pub setup-says : SetupAnswer → Answer
@@ -66,6 +76,12 @@ abbrev pub flag-says : FlagAnswer → Answer
 flag-says FlagYes = yes-with (1 ∷ [])
 flag-says FlagNo = yes-with (0 ∷ [])
 flag-says (FlagNot q) = no-by (number-of q)
+
+-- joined, or one class before
+abbrev pub union-says : UnionAnswer → Answer
+union-says UnionYes = yes-with (1 ∷ [])
+union-says UnionNo = yes-with (0 ∷ [])
+union-says (UnionNot q) = no-by (number-of q)
 
 abbrev pub flag : Bool → List ℕ
 flag true = 1 ∷ []
@@ -108,3 +124,14 @@ ids-is p = ap (λ (s : Head). s .ids) (p .is)
 -- the words past the need of the limits that stand in ws
 abbrev pub past : List ℕ → List ℕ → List ℕ
 past ws ws′ = drop (need (head-of ws .n) (head-of ws .m)) ws′
+
+-- the rest of a view, in these terms
+pub past-rest : (ws : List ℕ) (h : Head) → HeadIs (length ws) (hd ws) h → (ws′ : List ℕ) → view (h .n) (h .m) ws′ .rest ≡ view (h .n) (h .m) ws .rest
+    → past ws ws′ ≡ past ws ws
+past-rest ws h q ws′ e =
+    let p : drop (need (h .n) (h .m)) ws′ ≡ drop (need (h .n) (h .m)) ws = sym (view-rest (h .n) (h .m) ws′) ∙ e ∙ view-rest (h .n) (h .m) ws in
+    subst (λ (s : Head). drop (need (s .n) (s .m)) ws′ ≡ drop (need (s .n) (s .m)) ws) (q .is) p
+
+-- a head that stays in range while the words keep their number
+pub ok-still : {len len′ : ℕ} {h k : Head} → Near len h k → len′ ≡ len → HeadOk len′ k
+ok-still {k = k} p e = subst (λ (l : ℕ). HeadOk l k) (sym e) (p .ok)

@@ -2,7 +2,7 @@
 -- says; what is left is an answer, or 9, which never comes on words that hold a graph.
 -- Assumes nothing.
 use mathlib.Core.Bool.{Bool, false, true}
-use mathlib.Core.List.{List, [], _∷_, cons≢nil}
+use mathlib.Core.List.{List, [], _∷_}
 use mathlib.Core.Logic.{_≢_}
 use mathlib.Core.Path.{_∙_, _≡_, ap, refl, sym}
 use Prim.Native.Nat.{_<_, _≤_, ℕ}
@@ -12,7 +12,7 @@ use lib.ListN.{length}
 use borrow.Author.Tests.{eq-eqb, ne-eqb}
 use Rattle.steps.specs.Classes.{number-of-classes}
 use Rattle.steps.specs.Graph.{Graph, ids, root}
-use Rattle.egraph.specs.Answers.{Answer, Else, Unless-3, count-says, find-says, flag, flag-says, head-of, no-by, yes-with}
+use Rattle.egraph.specs.Answers.{Answer, Else, Unless-3, count-says, find-says, flag, flag-says, head-of, never, nine, no-by, yes-with}
 use Rattle.egraph.specs.declared.CountAnswer.{CountAnswer}
 use Rattle.egraph.specs.declared.CountAnswer.the-variants.{CountIs}
 use Rattle.egraph.specs.declared.FindAnswer.{FindAnswer}
@@ -40,12 +40,6 @@ FindSays ws i r =
     Unless-3 ws (find-says r ≡ no-by 3)
     (Else (head-of ws .ids ≤ i) (find-says r ≡ no-by 4) (i < head-of ws .ids)
     (FindOpen ws i r))
-
-nine : (k : ℕ) → _≡_ {A = Answer} (no-by 9) (no-by k) → k ≡ 9
-nine k e = sym (ap (λ (a : Answer). a .number) e)
-
-never : (k v : ℕ) → _≡_ {A = Answer} (yes-with (v ∷ [])) (no-by k) → ⊥
-never k v e = let q : _≡_ {A = List ℕ} (v ∷ []) [] = ap (λ (a : Answer). a .values) e in cons≢nil q
 
 module _ (ws : List ℕ) (h : Head) (q : HeadIs (length ws) (hd ws) h) (i : ℕ) (r : Found) (F : Finds (view (h .n) (h .m) ws .forest) (h .ids) i r) (hi : i < h .ids) where
   -- what the forest answers on words that hold a graph

@@ -38,6 +38,12 @@ pub enum FlagAnswer {
     FlagNot(Refusal),
 }
 
+pub enum UnionAnswer {
+    UnionYes,
+    UnionNo,
+    UnionNot(Refusal),
+}
+
 pub mod begin;
 
 pub use begin::setup;
@@ -48,3 +54,7 @@ pub use reads::clean;
 pub use reads::find;
 pub use reads::is_empty;
 pub use reads::number_of_classes;
+
+pub mod unions;
+
+pub use unions::union;

@@ -1,0 +1,5 @@
+pub mod Says
+pub mod Merge
+pub mod Merging
+pub mod Joining
+pub mod Uniting
