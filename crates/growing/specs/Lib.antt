@@ -1,0 +1,8 @@
+pub mod Extra
+pub mod Roots
+pub mod Store
+pub mod Enter
+pub mod Link
+pub mod Push
+pub mod Connect
+pub mod Grow
