@@ -4,14 +4,21 @@
 use mathlib.Core.Bool.{Bool, false, true}
 use mathlib.Core.List.{List, [], _∷_, cons≢nil}
 use mathlib.Core.Path.{_∙_, _≡_, ap, subst, sym}
-use Prim.Native.Nat.{ℕ}
-use lib.ListN.{drop, length}
+use Prim.Native.Nat.{_<_, _≤_, ℕ}
+use lib.ListN.{drop, length, take}
+use Rattle.language.specs.Struct.{nodeOf}
+use Rattle.language.specs.Term.{words}
 use Rattle.egraph.specs.declared.CountAnswer.{CountAnswer}
 use Rattle.egraph.specs.declared.CountAnswer.the-variants.{CountIs, CountNot}
 use Rattle.egraph.specs.declared.FindAnswer.{FindAnswer}
 use Rattle.egraph.specs.declared.FindAnswer.the-variants.{FindNot, FindRoot}
 use Rattle.egraph.specs.declared.FlagAnswer.{FlagAnswer}
 use Rattle.egraph.specs.declared.FlagAnswer.the-variants.{FlagNo, FlagNot, FlagYes}
+use Rattle.egraph.specs.declared.ListAnswer.{ListAnswer}
+use Rattle.egraph.specs.declared.ListAnswer.the-variants.{ListNot, ListWords}
+use Rattle.egraph.specs.declared.NodeAnswer.{NodeAnswer}
+use Rattle.egraph.specs.declared.NodeOut.{NodeOut}
+use Rattle.egraph.specs.declared.NodeOut.the-variants.{NodeIs, NodeNot}
 use Rattle.egraph.specs.declared.Refusal.{Refusal}
 use Rattle.egraph.specs.declared.Refusal.the-variants.{BadHead, BadLimits, BrokenWords, NoRoom, NotRebuilt, TooFewWords, TooLong, TooManyChildren, UnknownId}
 use Rattle.egraph.specs.declared.SetupAnswer.{SetupAnswer}
@@ -52,8 +59,8 @@ number-of BrokenWords = 9
 pub nine : (k : ℕ) → _≡_ {A = Answer} (no-by 9) (no-by k) → k ≡ 9
 nine k e = sym (ap (λ (a : Answer). a .number) e)
 
-pub never : (k v : ℕ) → _≡_ {A = Answer} (yes-with (v ∷ [])) (no-by k) → ⊥
-never k v e = let q : _≡_ {A = List ℕ} (v ∷ []) [] = ap (λ (a : Answer). a .values) e in cons≢nil q
+pub never : (k v : ℕ) {vs : List ℕ} → _≡_ {A = Answer} (yes-with (v ∷ vs)) (no-by k) → ⊥
+never k v {vs} e = let q : _≡_ {A = List ℕ} (v ∷ vs) [] = ap (λ (a : Answer). a .values) e in cons≢nil q
 
 -- ---- the calls' answers
 
@@ -86,6 +93,25 @@ union-says (UnionNot q) = no-by (number-of q)
 abbrev pub flag : Bool → List ℕ
 flag true = 1 ∷ []
 flag false = 0 ∷ []
+
+-- a node, in words
+abbrev pub node-out-says : NodeOut → List ℕ → Answer
+node-out-says NodeIs xs = yes-with xs
+node-out-says (NodeNot q) xs = no-by (number-of q)
+
+abbrev pub node-says : NodeAnswer → Answer
+node-says x = node-out-says (x .out) (words (nodeOf (x .node)))
+
+-- how many words of a list were written; the words themselves stand in the slice that was lent for them
+abbrev pub list-says : ListAnswer → Answer
+list-says (ListWords k) = yes-with (k ∷ [])
+list-says (ListNot q) = no-by (number-of q)
+
+-- xs is the list that was asked for, and out the slice lent for it: 8 where the list is longer, and nothing is written; else it stands at the start of out′
+pub record Lists (xs out : List ℕ) (r : ListAnswer) (out′ : List ℕ) : Type 0 where
+  pub long : length out < length xs → (list-says r ≡ no-by 8) × (out′ ≡ out)
+  pub fits : length xs ≤ length out
+      → (list-says r ≡ yes-with (length xs ∷ [])) × (take (length xs) out′ ≡ xs) × (drop (length xs) out′ ≡ drop (length xs) out)
 
 -- ---- the ladder of refusals, in document 01's order: refused where Bad, and else what comes after
 

@@ -2,3 +2,5 @@ pub mod Answers
 pub mod Setup
 pub mod Reads
 pub mod Unions
+pub mod Stored
+pub mod Listing

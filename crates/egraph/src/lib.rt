@@ -3,6 +3,7 @@
 //
 // What the calls answer is an enum for each kind of answer; specs/Answers.antt gives document 01's number and values for each case.
 use language::Id;
+use language::Node;
 
 // Why a call says no, in the order of document 01's table, 1 to 9.
 pub enum Refusal {
@@ -44,6 +45,23 @@ pub enum UnionAnswer {
     UnionNot(Refusal),
 }
 
+pub enum NodeOut {
+    NodeIs,
+    NodeNot(Refusal),
+}
+
+// A node, which is a leaf of operator 0 where it is refused.
+pub struct NodeAnswer {
+    pub out: NodeOut,
+    pub node: Node,
+}
+
+// How many words of a list were written into the slice that the caller lends for it.
+pub enum ListAnswer {
+    ListWords(usize),
+    ListNot(Refusal),
+}
+
 pub mod begin;
 
 pub use begin::setup;
@@ -58,3 +76,8 @@ pub use reads::number_of_classes;
 pub mod unions;
 
 pub use unions::union;
+
+pub mod listing;
+
+pub use listing::id_to_node;
+pub use listing::nodes;

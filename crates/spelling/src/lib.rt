@@ -1,0 +1,58 @@
+// Nodes in words, written one after the other into a slice that the caller lends. A node at a place takes 3 words and one for each child:
+//
+//     from       words    what
+//     place      1        its operator
+//     place + 1  1        its payload
+//     place + 2  1        its child count
+//     place + 3  count    its children
+//
+// The place behind it is the next node's. `words` and `spell` of language's specs/Term.antt say the same of plain nodes.
+ghost use mathlib.Core.Path.{_≡_};
+ghost use Prim.Native.Nat.{_+_, _≤_, _<_, _^_};
+ghost use lib.ListN.{length};
+ghost use lib.Seq.{sets};
+ghost use Rattle.language.specs.Term.{Term, places, words};
+ghost use Rattle.language.specs.Struct.{nodeOf};
+ghost use Rattle.spelling.specs.Puts.{Puts};
+use language::Node;
+
+fn wide(x: u32) -> usize
+    ensures { λ r. ⌜ (r ≡ x) × (r < 2 ^ 32) ⌝ }
+{
+    x as usize
+}
+
+// A node's children, one after another from a place on.
+fn put_kids(out: &mut [u32], place: usize, node: Node)
+    requires { ⌜ (node .count ≤ places) × (place + node .count ≤ length (now out)) ⌝ }
+    ensures { λ r. ⌜ now (out .exit) ≡ sets (now (out .entry)) place (nodeOf node .kids) ⌝ }
+{
+    let n = wide(node.count);
+    let mut i: usize = 0;
+    while i < n {
+        let k = node.kids[i];
+        out[place + i] = k.0;
+        i += 1;
+    }
+}
+
+// How many words a node takes.
+pub fn node_length(node: Node) -> usize
+    requires { ⌜ node .count ≤ places ⌝ }
+    ensures { λ r. ⌜ (r ≡ length (words (nodeOf node))) × (r ≡ 3 + node .count) ⌝ }
+{
+    3 + wide(node.count)
+}
+
+// A node's words from a place on; the answer is the place behind them.
+pub fn put_node(out: &mut [u32], at: usize, node: Node) -> usize
+    requires { ⌜ (node .count ≤ places) × (at + length (words (nodeOf node)) ≤ length (now out)) ⌝ }
+    ensures { λ r. ⌜ Puts (now (out .entry)) at node r (now (out .exit)) ⌝ }
+{
+    let n = node_length(node);
+    out[at] = node.op.0;
+    out[at + 1] = node.payload;
+    out[at + 2] = node.count;
+    put_kids(out, at + 3, node);
+    at + n
+}
