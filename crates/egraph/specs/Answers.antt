@@ -8,6 +8,8 @@ use Prim.Native.Nat.{_<_, _≤_, ℕ}
 use lib.ListN.{drop, length, take}
 use Rattle.language.specs.Struct.{nodeOf}
 use Rattle.language.specs.Term.{words}
+use Rattle.egraph.specs.declared.AddAnswer.{AddAnswer}
+use Rattle.egraph.specs.declared.AddAnswer.the-variants.{AddId, AddNot}
 use Rattle.egraph.specs.declared.CountAnswer.{CountAnswer}
 use Rattle.egraph.specs.declared.CountAnswer.the-variants.{CountIs, CountNot}
 use Rattle.egraph.specs.declared.FindAnswer.{FindAnswer}
@@ -16,6 +18,8 @@ use Rattle.egraph.specs.declared.FlagAnswer.{FlagAnswer}
 use Rattle.egraph.specs.declared.FlagAnswer.the-variants.{FlagNo, FlagNot, FlagYes}
 use Rattle.egraph.specs.declared.ListAnswer.{ListAnswer}
 use Rattle.egraph.specs.declared.ListAnswer.the-variants.{ListNot, ListWords}
+use Rattle.egraph.specs.declared.LookupAnswer.{LookupAnswer}
+use Rattle.egraph.specs.declared.LookupAnswer.the-variants.{LookupFound, LookupNone, LookupNot}
 use Rattle.egraph.specs.declared.NodeAnswer.{NodeAnswer}
 use Rattle.egraph.specs.declared.NodeOut.{NodeOut}
 use Rattle.egraph.specs.declared.NodeOut.the-variants.{NodeIs, NodeNot}
@@ -93,6 +97,17 @@ union-says (UnionNot q) = no-by (number-of q)
 abbrev pub flag : Bool → List ℕ
 flag true = 1 ∷ []
 flag false = 0 ∷ []
+
+-- the root that was found; found nothing is an answer, with no value
+abbrev pub lookup-says : LookupAnswer → Answer
+lookup-says (LookupFound i) = yes-with (i .0 ∷ [])
+lookup-says LookupNone = yes-with []
+lookup-says (LookupNot q) = no-by (number-of q)
+
+-- an id
+abbrev pub add-says : AddAnswer → Answer
+add-says (AddId i) = yes-with (i .0 ∷ [])
+add-says (AddNot q) = no-by (number-of q)
 
 -- a node, in words
 abbrev pub node-out-says : NodeOut → List ℕ → Answer

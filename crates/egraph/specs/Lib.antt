@@ -4,3 +4,4 @@ pub mod Reads
 pub mod Unions
 pub mod Stored
 pub mod Listing
+pub mod Adds

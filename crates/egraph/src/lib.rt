@@ -4,6 +4,7 @@
 // What the calls answer is an enum for each kind of answer; specs/Answers.antt gives document 01's number and values for each case.
 use language::Id;
 use language::Node;
+use layout::Head;
 
 // Why a call says no, in the order of document 01's table, 1 to 9.
 pub enum Refusal {
@@ -45,6 +46,24 @@ pub enum UnionAnswer {
     UnionNot(Refusal),
 }
 
+// The root of the id that the table has for a node, or none.
+pub enum LookupAnswer {
+    LookupFound(Id),
+    LookupNone,
+    LookupNot(Refusal),
+}
+
+pub enum AddAnswer {
+    AddId(Id),
+    AddNot(Refusal),
+}
+
+// The head that was read, or why there is none.
+pub enum Gate {
+    GateTo(Head),
+    GateNot(Refusal),
+}
+
 pub enum NodeOut {
     NodeIs,
     NodeNot(Refusal),
@@ -81,3 +100,9 @@ pub mod listing;
 
 pub use listing::id_to_node;
 pub use listing::nodes;
+
+pub mod adds;
+
+pub use adds::add;
+pub use adds::add_uncanonical;
+pub use adds::lookup;
