@@ -188,7 +188,7 @@ pub adding-on : (id : Graph → ℕ) (ws : List ℕ) (x : Node) (r : Gate) → G
 adding-on id ws x r G h e a ws′ L = gate-on ws x r G (λ k. (add-says a ≡ no-by k) × (ws′ ≡ ws)) (Adding id ws (nodeOf x) a ws′) h e L
 
 -- the machine's answers
-given-old : (g : Graph) (x : Term) (i : ℕ) → kept-for g x ≡ some i → add-uncanonical g x ≡ record { graph = g; id = i }
+pub given-old : (g : Graph) (x : Term) (i : ℕ) → kept-for g x ≡ some i → add-uncanonical g x ≡ record { graph = g; id = i }
 unfolding add-uncanonical add-by
 given-old g x i e = rw e refl
 

@@ -1,0 +1,179 @@
+-- Every answer is pinned down (document 01, "What pins an answer down"): of each call, on words that hold a graph, two outcomes that satisfy its promise have the same
+-- answer, and there is one graph that the words of both hold. By holds' `determined` any other graph that either holds is that one but for the table's dead keys, which
+-- no answer shows.
+-- Assumes nothing.
+use mathlib.Core.List.{List, [], _++_, _∷_}
+use mathlib.Core.Logic.{_⊎_, inl, inr}
+use mathlib.Core.Option.{Option, none, some}
+use mathlib.Core.Path.{_∙_, _≡_, ap, refl, sym}
+use Prim.Native.Nat.{_+_, _<_, _≤_, suc, zero, ℕ}
+use native.Mathlib.Omega.{arith}
+use lib.ListN.{drop, length, take, take-append-drop}
+use Rattle.lists.specs.Reads.{at}
+use Rattle.lists.specs.Tests.{lt-or}
+use Rattle.language.specs.Struct.{nodeOf}
+use Rattle.language.specs.Term.{Term, places}
+use Rattle.language.specs.declared.Node.{Node}
+use Rattle.steps.specs.Classes.{nodes}
+use Rattle.steps.specs.Graph.{Graph}
+use Rattle.steps.specs.Machine.{fresh}
+use Rattle.adding.specs.Says.{Full, Room, kept-for}
+use Rattle.egraph.specs.Adds.{Adding, AddingSays, LookupSays, NodeLadder}
+use Rattle.egraph.specs.Answers.{Answer, Else, Lists, Unless-3, add-says, count-says, find-says, flag-says, head-of, list-says, lookup-says, no-by, node-says, setup-says, union-says, yes-with}
+use Rattle.egraph.specs.Listing.{NodeSays, NodesSays}
+use Rattle.egraph.specs.Reads.{CleanSays, CountSays, EmptySays, FindSays}
+use Rattle.egraph.specs.Setup.{Limits, SetupSays}
+use Rattle.egraph.specs.Unions.{UnionSays}
+use Rattle.egraph.specs.declared.AddAnswer.{AddAnswer}
+use Rattle.egraph.specs.declared.CountAnswer.{CountAnswer}
+use Rattle.egraph.specs.declared.FindAnswer.{FindAnswer}
+use Rattle.egraph.specs.declared.FlagAnswer.{FlagAnswer}
+use Rattle.egraph.specs.declared.ListAnswer.{ListAnswer}
+use Rattle.egraph.specs.declared.LookupAnswer.{LookupAnswer}
+use Rattle.egraph.specs.declared.NodeAnswer.{NodeAnswer}
+use Rattle.egraph.specs.declared.SetupAnswer.{SetupAnswer}
+use Rattle.egraph.specs.declared.UnionAnswer.{UnionAnswer}
+use Rattle.holds.specs.Holds.{Holds}
+use Rattle.layout.specs.Cut.{need}
+use Rattle.layout.specs.declared.Head.{Head}
+
+-- two ends of a ladder's step
+pub both-ends : {B N G X N′ X′ R : Type 0} → B ⊎ G → Else B N G X → Else B N′ G X′ → (N → N′ → R) → (X → X′ → R) → R
+both-ends (inl b) s t n x = n (s .no b) (t .no b)
+both-ends (inr g) s t n x = x (s .on g) (t .on g)
+
+-- the same answer, and a graph that both hold
+pub record One (a a′ : Answer) (ws ws′ : List ℕ) : Type 0 where
+  pub answer : a ≡ a′
+  pub graph : (k : Graph) × Holds ws k × Holds ws′ k
+
+-- refused alike, with no word changed
+refused : {a a′ : Answer} {k : ℕ} {ws ws1 ws1′ : List ℕ} {g : Graph} → Holds ws g → (a ≡ no-by k) × (ws1 ≡ ws) → (a′ ≡ no-by k) × (ws1′ ≡ ws) → One a a′ ws1 ws1′
+refused {g = g} H p q = record { answer = p .0 ∙ sym (q .0); graph = (g, rw (p .1) H, rw (q .1) H) }
+
+-- answered alike
+answered : {a a′ : Answer} {vs : List ℕ} {ws1 ws1′ : List ℕ} {g : Graph} → (a ≡ yes-with vs) × Holds ws1 g → (a′ ≡ yes-with vs) × Holds ws1′ g → One a a′ ws1 ws1′
+answered {g = g} p q = record { answer = p .0 ∙ sym (q .0); graph = (g, p .1, q .1) }
+
+-- ---- decisions
+
+limits-or : (n m : ℕ) → (Limits n m → ⊥) ⊎ Limits n m
+limits-or n m = go (lt-or n 1) (lt-or 65536 n) (lt-or 262144 m)
+  where
+    go : (n < 1) ⊎ (1 ≤ n) → (65536 < n) ⊎ (n ≤ 65536) → (262144 < m) ⊎ (m ≤ 262144) → (Limits n m → ⊥) ⊎ Limits n m
+    go (inl a) b c = inl (λ l. omega (arith, l .n-low))
+    go (inr a) (inl b) c = inl (λ l. omega (arith, l .n-high))
+    go (inr a) (inr b) (inl c) = inl (λ l. omega (arith, l .m-high))
+    go (inr a) (inr b) (inr c) = inr (record { n-low = a; n-high = b; m-high = c })
+
+-- the other way round
+or-lt : (x y : ℕ) → (y ≤ x) ⊎ (x < y)
+or-lt x y = go (lt-or x y)
+  where
+    go : (x < y) ⊎ (y ≤ x) → (y ≤ x) ⊎ (x < y)
+    go (inl a) = inr a
+    go (inr a) = inl a
+
+low-or : (ks : List ℕ) (N : ℕ) → (((i : ℕ) → i < length ks → at ks i < N) → ⊥) ⊎ ((i : ℕ) → i < length ks → at ks i < N)
+low-or [] N = inr (λ i h. absurd (omega arith))
+low-or (k ∷ ks) N = go (lt-or k N) (low-or ks N)
+  where
+    put : k < N → ((i : ℕ) → i < length ks → at ks i < N) → (i : ℕ) → i < length (k ∷ ks) → at (k ∷ ks) i < N
+    put a f zero h = a
+    put a f (suc i) h = f i (omega arith)
+
+    go : (k < N) ⊎ (N ≤ k) → (((i : ℕ) → i < length ks → at ks i < N) → ⊥) ⊎ ((i : ℕ) → i < length ks → at ks i < N)
+        → (((i : ℕ) → i < length (k ∷ ks) → at (k ∷ ks) i < N) → ⊥) ⊎ ((i : ℕ) → i < length (k ∷ ks) → at (k ∷ ks) i < N)
+    go (inr a) q = inl (λ f. let z : k < N = f 0 (omega arith) in omega arith)
+    go (inl a) (inl n) = inl (λ f. n (λ i h. f (suc i) (omega arith)))
+    go (inl a) (inr f) = inr (put a f)
+
+full-or : (h : Head) (x : Term) → Full h x ⊎ Room h x
+full-or h x = go (lt-or (h .ids) (h .n)) (lt-or (h .m) (h .places + length (x .kids)))
+  where
+    go : (h .ids < h .n) ⊎ (h .n ≤ h .ids) → (h .m < h .places + length (x .kids)) ⊎ (h .places + length (x .kids) ≤ h .m) → Full h x ⊎ Room h x
+    go (inr a) b = inl (inl a)
+    go (inl a) (inl b) = inl (inr b)
+    go (inl a) (inr b) = inr (a, b)
+
+-- ---- setup: of any words
+
+pub setup-one : (ws : List ℕ) (n m : ℕ) (r r′ : SetupAnswer) (ws1 ws1′ : List ℕ) → SetupSays ws n m r ws1 → SetupSays ws n m r′ ws1′
+    → (setup-says r ≡ setup-says r′) × ((ws1 ≡ ws1′) ⊎ (Holds ws1 fresh × Holds ws1′ fresh))
+setup-one ws n m r r′ ws1 ws1′ s t =
+    both-ends (limits-or n m) s t (λ p q. (p .0 ∙ sym (q .0), inl (p .1 ∙ sym (q .1))))
+    (λ s t. both-ends (lt-or (length ws) (need n m)) s t (λ p q. (p .0 ∙ sym (q .0), inl (p .1 ∙ sym (q .1)))) (λ p q. (p .done ∙ sym (q .done), inr (p .held, q .held))))
+
+-- ---- reads, which change nothing
+
+module _ (ws : List ℕ) (g : Graph) (H : Holds ws g) where
+  -- 3 does not come
+  open-both : {N X N′ X′ R : Type 0} → Unless-3 ws N X → Unless-3 ws N′ X′ → (X → X′ → R) → R
+  open-both s t f = f (s .on (H .good)) (t .on (H .good))
+
+  pub find-one : (i : ℕ) (r r′ : FindAnswer) → FindSays ws i r → FindSays ws i r′ → find-says r ≡ find-says r′
+  find-one i r r′ s t = open-both s t (λ s t. both-ends (or-lt i (head-of ws .ids)) s t (λ p q. p ∙ sym q) (λ p q. p .sound g H ∙ sym (q .sound g H)))
+
+  pub count-one : (r r′ : CountAnswer) → CountSays ws r → CountSays ws r′ → count-says r ≡ count-says r′
+  count-one r r′ s t = open-both s t (λ p q. p .sound g H ∙ sym (q .sound g H))
+
+  pub empty-one : (r r′ : FlagAnswer) → EmptySays ws r → EmptySays ws r′ → flag-says r ≡ flag-says r′
+  empty-one r r′ s t = open-both s t (λ p q. p .sound g H ∙ sym (q .sound g H))
+
+  pub clean-one : (r r′ : FlagAnswer) → CleanSays ws r → CleanSays ws r′ → flag-says r ≡ flag-says r′
+  clean-one r r′ s t = open-both s t (λ p q. p .sound g H ∙ sym (q .sound g H))
+
+  pub node-one : (i : ℕ) (r r′ : NodeAnswer) → NodeSays ws i r → NodeSays ws i r′ → node-says r ≡ node-says r′
+  node-one i r r′ s t = open-both (s .says) (t .says) (λ s t. both-ends (or-lt i (head-of ws .ids)) s t (λ p q. p ∙ sym q) (λ p q. p .sound g H ∙ sym (q .sound g H)))
+
+  pub nodes-one : (out : List ℕ) (r r′ : ListAnswer) (o o′ : List ℕ) → NodesSays ws out r o → NodesSays ws out r′ o′ → (list-says r ≡ list-says r′) × (o ≡ o′)
+  nodes-one out r r′ o o′ s t = open-both (s .says) (t .says) (λ p q. go (lt-or (length out) (length (nodes g))) (p .sound g H) (q .sound g H))
+    where
+      go : (length out < length (nodes g)) ⊎ (length (nodes g) ≤ length out) → Lists (nodes g) out r o → Lists (nodes g) out r′ o′ → (list-says r ≡ list-says r′) × (o ≡ o′)
+      go (inl l) p q = let a = p .long l in let b = q .long l in (a .0 ∙ sym (b .0), a .1 ∙ sym (b .1))
+      go (inr l) p q =
+          let a = p .fits l in
+          let b = q .fits l in
+          let k = length (nodes g) in
+          let x : take k o ≡ take k o′ = a .1 ∙ sym (b .1) in
+          let y : drop k o ≡ drop k o′ = a .2 ∙ sym (b .2) in
+          (a .0 ∙ sym (b .0), sym (take-append-drop k o) ∙ ap (λ (l : List ℕ). l ++ drop k o) x ∙ ap (λ (l : List ℕ). take k o′ ++ l) y ∙ take-append-drop k o′)
+
+  -- ---- a node in hand
+
+  node-ends : (x : Node) {No No′ : ℕ → Type 0} {X X′ R : Type 0} → NodeLadder ws x No X → NodeLadder ws x No′ X′ → ((k : ℕ) → No k → No′ k → R) → (X → X′ → R) → R
+  node-ends x s t n f =
+      open-both s t (λ s t. both-ends (lt-or places (x .count)) s t (n 5)
+      (λ s t. both-ends (low-or (nodeOf x .kids) (head-of ws .ids)) s t (n 4) f))
+
+  pub lookup-one : (x : Node) (r r′ : LookupAnswer) → LookupSays ws x r → LookupSays ws x r′ → lookup-says r ≡ lookup-says r′
+  lookup-one x r r′ s t =
+      node-ends x {No = λ k. lookup-says r ≡ no-by k} {No′ = λ k. lookup-says r′ ≡ no-by k} s t (λ k p q. p ∙ sym q) (λ p q. p .sound g H ∙ sym (q .sound g H))
+
+  -- `add_uncanonical` and `add`
+  pub adding-one : (id : Graph → ℕ) (x : Node) (r r′ : AddAnswer) (ws1 ws1′ : List ℕ) → AddingSays id ws x r ws1 → AddingSays id ws x r′ ws1′ → One (add-says r) (add-says r′) ws1 ws1′
+  adding-one id x r r′ ws1 ws1′ s t =
+      node-ends x {No = λ k. (add-says r ≡ no-by k) × (ws1 ≡ ws)} {No′ = λ k. (add-says r′ ≡ no-by k) × (ws1′ ≡ ws)} s t (λ k p q. refused H p q)
+      (λ p q. go p q (kept-for g (nodeOf x)) refl)
+    where
+      go : Adding id ws (nodeOf x) r ws1 → Adding id ws (nodeOf x) r′ ws1′ → (o : Option ℕ) → kept-for g (nodeOf x) ≡ o → One (add-says r) (add-says r′) ws1 ws1′
+      go p q (some i) k =
+          let a = p .found g i H k in
+          let b = q .found g i H k in
+          answered {vs = id g ∷ []} {g = g} (a .0, rw (a .1) H) (b .0, rw (b .1) H)
+      go p q none k = room (full-or (head-of ws) (nodeOf x))
+        where
+          room : Full (head-of ws) (nodeOf x) ⊎ Room (head-of ws) (nodeOf x) → One (add-says r) (add-says r′) ws1 ws1′
+          room (inl f) = refused H (p .shut g H k f) (q .shut g H k f)
+          room (inr f) = answered (p .grown g H k f) (q .grown g H k f)
+
+  -- ---- union
+
+  pub union-one : (i j : ℕ) (r r′ : UnionAnswer) (ws1 ws1′ : List ℕ) → UnionSays ws i j r ws1 → UnionSays ws i j r′ ws1′ → One (union-says r) (union-says r′) ws1 ws1′
+  union-one i j r r′ ws1 ws1′ s t =
+      open-both s t (λ s t. both-ends (far (lt-or i (head-of ws .ids)) (lt-or j (head-of ws .ids))) s t (λ p q. refused H p q) (λ p q. answered (p .sound g H) (q .sound g H)))
+    where
+      far : {N : ℕ} → (i < N) ⊎ (N ≤ i) → (j < N) ⊎ (N ≤ j) → ((N ≤ i) ⊎ (N ≤ j)) ⊎ ((i < N) × (j < N))
+      far (inr a) b = inl (inl a)
+      far (inl a) (inr b) = inl (inr b)
+      far (inl a) (inl b) = inr (a, b)

@@ -1,0 +1,7 @@
+pub mod Extra
+pub mod Copy
+pub mod Refill
+pub mod Says
+pub mod Class
+pub mod Classing
+pub mod Classes
