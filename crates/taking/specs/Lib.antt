@@ -1,0 +1,11 @@
+pub mod Extra
+pub mod Take
+pub mod Fresh
+pub mod Leave
+pub mod Settle
+pub mod Rekey
+pub mod Close
+pub mod Entry
+pub mod Drain
+pub mod Places
+pub mod Enough
