@@ -8,6 +8,7 @@ use Prim.Native.Nat.{_+_, _<_, _≤_, ℕ}
 use native.Mathlib.Decide.{decLt}
 use native.Mathlib.Omega.{arith}
 use lib.ListN.{length}
+use Rattle.holds.specs.HoldsLaws.{root-again}
 use Rattle.lists.specs.Options.{none≢some}
 use Rattle.lists.specs.Reads.{at}
 use Rattle.lists.specs.Tests.{eq-or, when, when-no, when-yes}
@@ -20,7 +21,6 @@ use Rattle.closure.specs.Tables.{canon-live}
 use Rattle.adding.specs.Says.{Known, Probes, seen-as}
 use Rattle.adding.specs.declared.Seen.{Seen}
 use Rattle.adding.specs.declared.Seen.the-variants.{SeenAt, SeenBroken, SeenNone}
-use Rattle.growing.specs.Extra.{root-again}
 use Rattle.growing.specs.Roots.{WithRoots}
 use Rattle.growing.specs.declared.Rooted.{Rooted}
 use Rattle.growing.specs.declared.Rooting.the-variants.{RootingBroken, RootingDone}

@@ -101,3 +101,8 @@ module _ (ws : List ℕ) (n m a c : ℕ) (rm : Room ws n m) (ha : a < n) (hc : c
       exact = λ _ _ _. (refl, refl);
       law = λ L p. (refl, pool-join ws n m L (rm .room) p a c ha hc ne (cells-of L p));
     }
+
+-- ---- done and broken are two answers
+
+pub change-apart : (r : Change) → r ≡ ChangeBroken → r ≡ ChangeDone → ⊥
+change-apart r e f = let z : _≡_ {A = ℕ} 0 1 = cc in omega arith

@@ -4,7 +4,7 @@
 use mathlib.Core.Bool.{Bool, false, true}
 use mathlib.Core.List.{List, [], _∷_, cons≢nil, map}
 use mathlib.Core.Logic.{_↔_, _≢_, _⊎_, inl, inr}
-use mathlib.Core.Option.{some}
+use mathlib.Core.Option.{Option, none, some}
 use mathlib.Core.Path.{_∙_, _≡_, ap, refl, sym}
 use Prim.Native.Nat.{_+_, _<_, suc, zero, ℕ}
 use native.Mathlib.Decide.{decLt, ℕ-discrete}
@@ -16,7 +16,7 @@ use Rattle.lists.specs.Reads.{at, getD-map-lt}
 use Rattle.language.specs.Term.{Match, Term}
 use Rattle.steps.specs.Forced.{Forced, Made, alike, asked, back, rebuilt, self, then}
 use Rattle.steps.specs.Graph.{Graph, canon, ids, kept, key-of, node, root, uses}
-use Rattle.steps.specs.Machine.{Rebuild, Rebuilt, count, done, grow, lookup, merge, more, run, run-on, step, union, union-by}
+use Rattle.steps.specs.Machine.{Rebuild, Rebuilt, close, count, done, grow, lookup, merge, more, run, run-on, step, taken, union, union-by}
 use Rattle.closure.specs.Induct.{made-keeps}
 use Rattle.closure.specs.Invariant.{Good, Same, Settled}
 use Rattle.closure.specs.Kept.{made-good}
@@ -174,3 +174,15 @@ run-enough (more {g = g} n r) (suc f) lt = let ih = run-enough r f (omega arith)
   yeses = count (step g (g .pending) .answer) + ih i .yeses;
   entries = suc (ih i .entries);
 }
+
+-- ---- 5. an entry of a rebuild leaves an unclean graph unclean
+
+close-unclean : (g : Graph) (o : Option ℕ) (i : ℕ) → g .clean ≡ false → close g o i .graph .clean ≡ false
+unfolding close
+close-unclean g none i e = e
+close-unclean g (some j) i e = union-unclean g j i
+
+pub step-unclean : (g : Graph) (p : List ℕ) → g .clean ≡ false → step g p .graph .clean ≡ false
+unfolding step
+step-unclean g [] e = e
+step-unclean g (i ∷ rest) e = close-unclean (taken g i rest) (kept (key-of g i) (g .memo)) i e

@@ -83,6 +83,10 @@ ends-by us (suc n) g G h = go (g .pending) refl (λ k K lt. ends-by us n k K lt)
         let r = ih (step g (g .pending) .graph) (step-good us g (g .pending) refl G) (omega (arith, step-measure us g (g .pending) refl full G)) in
         (count (step g (g .pending) .answer) + r .0, suc (r .1), r .2, more full (r .3))
 
-pub ends : {us : List (ℕ × ℕ)} {g : Graph} → Made us g → (y : ℕ) × (t : ℕ) × (h : Graph) × Rebuild g y t h
+-- from any graph with the invariant
+pub rebuild-ends : {us : List (ℕ × ℕ)} {g : Graph} → Good Same us g → (y : ℕ) × (t : ℕ) × (h : Graph) × Rebuild g y t h
 unfolding Ends
-ends {us} {g} M = ends-by us (suc (measure g)) g (made-good M) (omega arith)
+rebuild-ends {us} {g} G = ends-by us (suc (measure g)) g G (omega arith)
+
+pub ends : {us : List (ℕ × ℕ)} {g : Graph} → Made us g → (y : ℕ) × (t : ℕ) × (h : Graph) × Rebuild g y t h
+ends M = rebuild-ends (made-good M)

@@ -1,6 +1,7 @@
 -- The table leads from a live key to an id whose own key it is. So an id has at most one live key, and n places hold the table of n ids.
 -- Assumes nothing.
 use mathlib.Core.List.{List, [], _++_, _∷_, map}
+use mathlib.Core.Logic.{_≢_}
 use mathlib.Core.Option.{Option, none, some}
 use mathlib.Core.Path.{_∙_, _≡_, ap, refl, sym}
 use Prim.Native.Nat.{_<_, ℕ}
@@ -12,9 +13,9 @@ use Rattle.lists.specs.Relabel.{relabel}
 use Rattle.language.specs.Term.{Term, same-term}
 use Rattle.steps.specs.Forced.{Made}
 use Rattle.steps.specs.Graph.{Graph, canon, ids, kept, key-of, node, root}
-use Rattle.steps.specs.Machine.{grow, lookup, merge, root-of}
+use Rattle.steps.specs.Machine.{grow, lookup, merge, root-of, step}
 use Rattle.closure.specs.Facts.{kept-here, kept-past, node-new, node-old, root-before, root-more, root-relabel}
-use Rattle.closure.specs.Induct.{made-keeps}
+use Rattle.closure.specs.Induct.{made-keeps, step-keeps}
 use Rattle.closure.specs.Invariant.{Good, Same}
 use Rattle.closure.specs.Kept.{made-good}
 use Rattle.closure.specs.Tables.{Live, canon-live}
@@ -89,3 +90,15 @@ lookup-from {us} {g} M x r e = go (kept (canon (g .roots) x) (g .memo)) refl e
     go : (o : Option ℕ) → kept (canon (g .roots) x) (g .memo) ≡ o → root-of (g .roots) o ≡ some r → (i : ℕ) × (i < ids g) × (canon (g .roots) x ≡ key-of g i) × (root (g .roots) i ≡ r)
     go none f q = absurd (none≢some q)
     go (some i) f q = (i, G .sound .memo-lt (canon (g .roots) x) i f, made-keyed M (canon (g .roots) x) i (canon-live (g .roots) x (G .shape .root-root)) f, cc q)
+
+-- ---- an entry of a rebuild keeps it
+
+pub step-keyed : (us : List (ℕ × ℕ)) (g : Graph) (p : List ℕ) → g .pending ≡ p → p ≢ [] → Good Same us g → Keyed (g .nodes) (g .roots) (g .memo)
+    → Keyed (step g p .graph .nodes) (step g p .graph .roots) (step g p .graph .memo)
+unfolding merge
+step-keyed us g p e ne G = step-keeps (λ c g. Keyed (g .nodes) (g .roots) (g .memo)) (record {
+  at-mark = λ c g K. K;
+  at-end = λ c g e K. K;
+  at-merge = λ c g s l J K. keyed-merge (g .nodes) (g .roots) (g .memo) s l (omega (arith, J .l-lt, J .shape .rl)) (J .s-root) (J .shape .root-root) K;
+  at-take = λ us c g i rest G top K. keyed-set (g .nodes) (g .roots) (g .memo) (key-of g i) i refl K;
+}) us 0 g p e ne G

@@ -4,11 +4,11 @@ use mathlib.Core.List.{List}
 use mathlib.Core.Path.{_≡_, refl}
 use Prim.Native.Nat.{_*_, _+_, _<_, ℕ}
 use lib.ListN.{length}
+use Rattle.cells.specs.Changes.{change-apart}
 use Rattle.steps.specs.Graph.{Graph}
 use Rattle.steps.specs.Machine.{linked, pushed}
 use Rattle.cells.specs.declared.Change.{Change}
 use Rattle.cells.specs.declared.Change.the-variants.{ChangeBroken, ChangeDone}
-use Rattle.growing.specs.Extra.{change-apart}
 use Rattle.growing.specs.Link.{LinksAll}
 use Rattle.growing.specs.Push.{PushesId, deeper}
 use Rattle.holds.specs.Holds.{HoldsAt}

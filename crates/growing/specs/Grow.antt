@@ -7,6 +7,8 @@ use mathlib.Core.Path.{_≡_, ap, refl}
 use Prim.Native.Nat.{_+_, ℕ}
 use native.Mathlib.Omega.{arith}
 use lib.ListN.{length}
+use Rattle.holds.specs.HoldsLaws.{root-again}
+use Rattle.cells.specs.Changes.{change-apart}
 use Rattle.language.specs.Term.{Term}
 use Rattle.steps.specs.Graph.{Graph, canon, ids, kept}
 use Rattle.steps.specs.Machine.{grow, keyed, linked, marked, pushed, stored}
@@ -15,7 +17,6 @@ use Rattle.cells.specs.declared.Change.{Change}
 use Rattle.cells.specs.declared.Change.the-variants.{ChangeBroken, ChangeDone}
 use Rattle.growing.specs.Connect.{Connects}
 use Rattle.growing.specs.Enter.{Enters, Waits}
-use Rattle.growing.specs.Extra.{change-apart, root-again}
 use Rattle.growing.specs.Push.{deeper}
 use Rattle.growing.specs.Store.{Stores, stored-numbers}
 use Rattle.holds.specs.Holds.{HoldsAt}

@@ -1,4 +1,3 @@
-pub mod Extra
 pub mod Roots
 pub mod Store
 pub mod Enter

@@ -12,10 +12,9 @@ use Rattle.lists.specs.Reads.{at, length-more}
 use Rattle.steps.specs.Graph.{Graph}
 use Rattle.steps.specs.Machine.{link, linked}
 use Rattle.closure.specs.Facts.{link-append}
-use Rattle.cells.specs.Changes.{Pushed}
+use Rattle.cells.specs.Changes.{Pushed, change-apart}
 use Rattle.cells.specs.declared.Change.{Change}
 use Rattle.cells.specs.declared.Change.the-variants.{ChangeBroken, ChangeDone}
-use Rattle.growing.specs.Extra.{change-apart}
 use Rattle.holds.specs.Holds.{HoldsAt}
 use Rattle.holds.specs.Inside.{Inside, inside-lent, inside-same, inside-then}
 use Rattle.holds.specs.ParentsLaws.{parents-link}

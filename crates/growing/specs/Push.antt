@@ -4,11 +4,11 @@ use mathlib.Core.List.{List}
 use mathlib.Core.Path.{_≡_, refl}
 use Prim.Native.Nat.{_*_, _+_, _<_, _≤_, ℕ}
 use native.Mathlib.Omega.{arith}
+use Rattle.cells.specs.Changes.{change-apart}
 use Rattle.steps.specs.Graph.{Graph}
 use Rattle.steps.specs.Machine.{pushed}
 use Rattle.cells.specs.declared.Change.{Change}
 use Rattle.cells.specs.declared.Change.the-variants.{ChangeBroken, ChangeDone}
-use Rattle.growing.specs.Extra.{change-apart}
 use Rattle.holds.specs.Holds.{HoldsAt}
 use Rattle.holds.specs.Inside.{Inside, inside-lent, inside-same}
 use Rattle.holds.specs.ParentsLaws.{parents-push}

@@ -3,21 +3,24 @@
 -- Assumes nothing.
 use mathlib.Core.Bool.{Bool, false, true}
 use mathlib.Core.List.{List}
-use mathlib.Core.Path.{_≡_, refl, subst, sym}
-use Prim.Native.Nat.{ℕ}
+use mathlib.Core.Logic.{⊎-elim}
+use mathlib.Core.Path.{_≡_, ap, refl, subst, sym}
+use Prim.Native.Nat.{_<_, _≤_, ℕ}
 use native.Mathlib.Omega.{arith}
 use lib.ListN.{length}
+use Rattle.lists.specs.Tests.{lt-or}
 use Rattle.language.specs.Term.{places}
 use Rattle.steps.specs.Classes.{classes}
-use Rattle.steps.specs.Graph.{Graph, ids}
+use Rattle.steps.specs.Graph.{Graph, ids, root}
 use Rattle.steps.specs.Machine.{linked, marked}
+use Rattle.closure.specs.Facts.{root-out}
 use Rattle.holds.specs.Holds.{Holds, HoldsAt}
 use Rattle.layout.specs.Cut.{forest, scratch, sorting}
 use Rattle.layout.specs.Head.{HeadIs, HeadOk, head-good}
 use Rattle.layout.specs.View.{View, hd, put, put-head, view}
 use Rattle.layout.specs.Written.{Noted, head-written, noted-is, written}
 use Rattle.layout.specs.declared.Head.{Head}
-use Rattle.unionfind.specs.Forest.{Forest}
+use Rattle.unionfind.specs.Forest.{Forest, root-root}
 
 pub false≢true : _≡_ {A = Bool} false true → ⊥
 false≢true e = let z : _≡_ {A = ℕ} 0 1 = cc in omega arith
@@ -116,3 +119,10 @@ pub holds-written : (ws ws′ : List ℕ) (k : Head) (g : Graph) → HeadOk (len
 holds-written ws ws′ k g ok N H =
     let q : HeadIs (length ws′) (hd ws′) k = noted-is N (head-written (length ws) (hd ws) k ok) in
     holds-out ws′ k g q (subst (λ (v : View). HoldsAt k (k .places) v g) (sym (N .else (k .n) (k .m))) (holds-head H (written (hd ws) k)))
+
+-- ---- roots
+
+-- every root is its own root, also of a number that is no id
+pub root-again : {f : List ℕ} {N C : ℕ} {R : List ℕ} → Forest f N C R → (i : ℕ) → root R (root R i) ≡ root R i
+unfolding root
+root-again {f} {N} {C} {R} F i = ⊎-elim (λ (l : i < N). root-root F i l) (λ (l : N ≤ i). let e = root-out R i (rw (F .len) l) in ap (root R) e) (lt-or i N)

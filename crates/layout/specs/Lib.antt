@@ -2,6 +2,7 @@ pub mod Cut
 pub mod View
 pub mod Back
 pub mod Lent
+pub mod Idle
 pub mod Both
 pub mod Zero
 pub mod Head

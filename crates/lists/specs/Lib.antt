@@ -7,4 +7,5 @@ pub mod Keeps
 pub mod Sorted
 pub mod Sums
 pub mod Stores
+pub mod Sets
 pub mod Parts

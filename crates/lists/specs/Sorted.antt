@@ -1,10 +1,13 @@
 -- Strictly ascending lists, over any relation that no chain leads back by: their members settle them.
 -- Assumes nothing.
-use mathlib.Core.Path.{_≡_, refl, sym, _∙_}
+use mathlib.Core.Path.{_≡_, refl, sym, ap, _∙_}
 use mathlib.Core.Logic.{_⊎_, inl, inr, ite}
-use mathlib.Core.List.{List, [], _∷_, _++_, filter}
+use mathlib.Core.List.{List, [], _∷_, _++_, filter, map}
 use Prim.Native.Nat.{ℕ, zero, suc, _<_}
-use Rattle.lists.specs.Members.{Mem, here, there, mem-cases, mem-nil, mem-append-cases, mem-one}
+use native.Mathlib.Omega.{arith}
+use lib.ListN.{length}
+use Rattle.lists.specs.Members.{Mem, here, there, mem-cases, mem-nil, mem-append-cases, mem-one, mem-at, mem-map}
+use Rattle.lists.specs.Reads.{at}
 use Rattle.lists.specs.Keeps.{upto, upto-lt, filter-from}
 
 -- each member comes before all that stand behind it: so none stands twice
@@ -60,3 +63,12 @@ pub upto-ascending : (n : ℕ) → Ascending _<_ (upto n)
 unfolding upto
 upto-ascending zero = none-left
 upto-ascending (suc n) = ascending-more _<_ (upto n) n (upto-ascending n) (λ y m. upto-lt n y m)
+
+-- numbers whose values under f ascend: no two places have one number
+module _ {A : Type 0} (Before : A → A → Type 0) (never : (x : A) → Before x x → ⊥) (f : ℕ → A) where
+  pub ascending-once : (xs : List ℕ) → Ascending Before (map f xs) → (i j : ℕ) → i < length xs → j < length xs → at xs i ≡ at xs j → i ≡ j
+  ascending-once [] a i j h l e = absurd (omega arith)
+  ascending-once (x ∷ xs) (first b s) zero zero h l e = refl
+  ascending-once (x ∷ xs) (first b s) zero (suc j) h l e = absurd (never (f x) (b (f x) (rw e (mem-map f (mem-at xs j (omega arith))))))
+  ascending-once (x ∷ xs) (first b s) (suc i) zero h l e = absurd (never (f x) (b (f x) (rw (← e) (mem-map f (mem-at xs i (omega arith))))))
+  ascending-once (x ∷ xs) (first b s) (suc i) (suc j) h l e = ap suc (ascending-once xs s i j (omega arith) (omega arith) e)

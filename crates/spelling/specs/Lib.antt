@@ -1,3 +1,2 @@
-pub mod Extra
 pub mod Puts
 pub mod Listed

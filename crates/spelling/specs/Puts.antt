@@ -6,12 +6,12 @@ use Prim.Native.Nat.{_+_, _<_, _≤_, suc, ℕ}
 use native.Mathlib.Omega.{arith}
 use lib.ListN.{drop, length, length-map, length-take, set, take}
 use lib.Seq.{length-sets, sets}
+use Rattle.lists.specs.Sets.{sets-after, sets-before, sets-stand}
 use Rattle.lists.specs.Stores.{sets-snoc}
 use Rattle.language.specs.Loops.{row-more}
 use Rattle.language.specs.Struct.{Full, count-kids, nodeOf, place, row}
 use Rattle.language.specs.Term.{places, words}
 use Rattle.language.specs.declared.Node.{Node}
-use Rattle.spelling.specs.Extra.{sets-after, sets-before, sets-stand}
 
 -- one child more
 pub put-more : (x : Node) → Full x → (l : List ℕ) (p i : ℕ) → i < places → set (sets l p (take i (row x))) (p + i) (place x i) ≡ sets l p (take (i + 1) (row x))

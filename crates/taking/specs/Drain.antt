@@ -7,10 +7,11 @@ use mathlib.Core.Path.{_≡_, refl, subst, sym}
 use Prim.Native.Nat.{_+_, _-_, _<_, _≤_, ℕ}
 use native.Mathlib.Omega.{arith}
 use lib.ListN.{length}
+use Rattle.closure.specs.Closed.{step-unclean}
 use Rattle.steps.specs.Graph.{Graph}
 use Rattle.steps.specs.Machine.{Rebuild, count, done, marked, more, step}
 use Rattle.closure.specs.Invariant.{Good, Same}
-use Rattle.closure.specs.Slots.{Keyed}
+use Rattle.closure.specs.Slots.{Keyed, step-keyed}
 use Rattle.closure.specs.Taking.{step-good}
 use Rattle.holds.specs.Holds.{HoldsAt}
 use Rattle.holds.specs.Inside.{Inside, inside-same, inside-then}
@@ -18,7 +19,6 @@ use Rattle.layout.specs.Head.{HeadOk}
 use Rattle.layout.specs.View.{View, view}
 use Rattle.layout.specs.declared.Head.{Head}
 use Rattle.taking.specs.Entry.{EntrySays, Open, inside-near, near-then, view-near}
-use Rattle.taking.specs.Extra.{step-keyed, step-unclean}
 use Rattle.taking.specs.declared.Drained.{Drained}
 use Rattle.taking.specs.declared.Drained.the-variants.{DrainedBroken, DrainedTo}
 use Rattle.taking.specs.declared.Entry.{Entry}

@@ -1,17 +1,16 @@
 -- How many entries a rebuild takes, at most: a number that the head tells, so that the loop ends on any words and is never cut short on words that hold a graph.
 -- Assumes nothing.
 use mathlib.Core.Bool.{true}
-use mathlib.Core.List.{List, [], _∷_, cons≢nil}
-use mathlib.Core.Logic.{_≢_}
-use mathlib.Core.Path.{_∙_, _≡_, refl, subst, sym}
-use Prim.Native.Nat.{_*_, _+_, _<_, _≤_, suc, zero, ℕ}
+use mathlib.Core.List.{List, []}
+use mathlib.Core.Path.{_≡_, refl, subst}
+use Prim.Native.Nat.{_*_, _+_, _<_, _≤_, ℕ}
 use native.Mathlib.Nat.{mul-le-mul, mul-le-mul-left}
 use native.Mathlib.Omega.{arith}
 use lib.ListN.{length}
 use Rattle.steps.specs.Classes.{number-of-classes}
 use Rattle.steps.specs.Graph.{Graph, root}
-use Rattle.steps.specs.Machine.{Rebuild, count, done, marked, more, step}
-use Rattle.closure.specs.Ends.{measure, step-measure}
+use Rattle.steps.specs.Machine.{Rebuild, count, done, marked, more}
+use Rattle.closure.specs.Ends.{measure, rebuild-ends, step-measure}
 use Rattle.closure.specs.Invariant.{Good, Same}
 use Rattle.closure.specs.Sums.{sizes}
 use Rattle.closure.specs.Taking.{step-good}
@@ -56,19 +55,6 @@ measure-low {h} {u} {v} {g} H =
     let b : number-of-classes g * sizes (g .parents) ≤ h .classes * h .places = mul-le-mul c s in
     omega arith
 
--- a rebuild ends
-rebuild-ends : (us : List (ℕ × ℕ)) (n : ℕ) (g : Graph) → Good Same us g → measure g < n → (y : ℕ) × (t : ℕ) × (z : Graph) × Rebuild g y t z
-rebuild-ends us zero g G h = absurd (omega arith)
-rebuild-ends us (suc n) g G h = go (g .pending) refl (λ k K lt. rebuild-ends us n k K lt)
-  where
-    go : (p : List ℕ) → g .pending ≡ p → ((k : Graph) → Good Same us k → measure k < n → (y : ℕ) × (t : ℕ) × (z : Graph) × Rebuild k y t z)
-        → (y : ℕ) × (t : ℕ) × (z : Graph) × Rebuild g y t z
-    go [] e ih = (0, 0, marked g true, done e)
-    go (i ∷ rest) e ih =
-        let ne : g .pending ≢ [] = λ q. cons≢nil (sym e ∙ q) in
-        let r = ih (step g (g .pending) .graph) (step-good us g (g .pending) refl G) (omega (arith, step-measure us g (g .pending) refl ne G)) in
-        (count (step g (g .pending) .answer) + r .0, suc (r .1), r .2, more ne (r .3))
-
 -- ---- what `drain` promises
 
 -- the graph g is rebuilt, but for the mark
@@ -105,7 +91,7 @@ drains-all h ws r ws′ fuel e D = record {
   range = D .range;
   sound = λ g u us H S.
       let b = measure-low H in
-      let q = rebuild-ends us (suc (measure g)) g (S .good) (omega arith) in
+      let q = rebuild-ends (S .good) in
       let l = rebuild-measure us (q .3) (S .good) in
       rebuilds (q .3) (D .sound g u us H S (q .0) (q .1) (q .2) (q .3) (omega arith));
 }

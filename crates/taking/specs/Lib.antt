@@ -1,4 +1,3 @@
-pub mod Extra
 pub mod Take
 pub mod Fresh
 pub mod Leave

@@ -14,11 +14,10 @@ use Rattle.steps.specs.Machine.{keyed}
 use Rattle.closure.specs.Tables.{Live, canon-live}
 use Rattle.cells.specs.declared.Change.{Change}
 use Rattle.cells.specs.declared.Change.the-variants.{ChangeBroken, ChangeDone}
-use Rattle.growing.specs.Extra.{root-again}
 use Rattle.growing.specs.declared.Rooted.{Rooted}
 use Rattle.growing.specs.declared.Rooting.the-variants.{RootingBroken}
 use Rattle.holds.specs.Holds.{HoldsAt}
-use Rattle.holds.specs.HoldsLaws.{false≢true}
+use Rattle.holds.specs.HoldsLaws.{false≢true, root-again}
 use Rattle.holds.specs.Inside.{Inside, inside-same, inside-then}
 use Rattle.holds.specs.Nodes.{Nodes}
 use Rattle.layout.specs.Cut.{rows, table}

@@ -7,6 +7,7 @@ use Prim.Native.Nat.{_+_, _<_, _≤_, ℕ}
 use native.Mathlib.Omega.{arith}
 use lib.ListN.{length, length-map, set, take}
 use lib.Seq.{drop-at, getD-set-same, getD-take, length-take-le, set-getD, set-set, take-at}
+use Rattle.lists.specs.Sorted.{ascending-once}
 use Rattle.lists.specs.Members.{Mem, all-members, map-same, mem-at, mem-map, mem-of-map}
 use Rattle.lists.specs.Reads.{at, at-right, set-all}
 use Rattle.language.specs.Ordered.{Before, before-self}
@@ -30,7 +31,6 @@ use Rattle.sorting.specs.Ids.{key-of as sort-key}
 use Rattle.sorting.specs.Promise.{Sorts}
 use Rattle.sorting.specs.declared.Sorted.{Sorted}
 use Rattle.sorting.specs.declared.Sorted.the-variants.{SortedTo}
-use Rattle.tidying.specs.Extra.{ascending-once}
 use Rattle.tidying.specs.Refill.{Fresh, fill}
 use Rattle.tidying.specs.Says.{ClassTidied, UpToDate}
 

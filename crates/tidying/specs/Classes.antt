@@ -7,6 +7,7 @@ use mathlib.Core.Path.{_∙_, _≡_, ap, refl, subst, sym}
 use Prim.Native.Nat.{_+_, _<_, _≤_, ℕ}
 use native.Mathlib.Omega.{arith}
 use lib.ListN.{length}
+use Rattle.cells.specs.Changes.{change-apart}
 use Rattle.lists.specs.Members.{no-member}
 use Rattle.lists.specs.Reads.{at, set-all}
 use Rattle.lists.specs.Tests.{lt-or}
@@ -25,7 +26,6 @@ use Rattle.layout.specs.Head.{HeadOk}
 use Rattle.layout.specs.View.{View, view}
 use Rattle.layout.specs.declared.Head.{Head}
 use Rattle.tidying.specs.Class.{class-sorted}
-use Rattle.tidying.specs.Extra.{change-apart}
 use Rattle.tidying.specs.Says.{ClassTidied, Tidies, TidiesClass, UpToDate, cleaned}
 use Rattle.unionfind.specs.Forest.{root-low}
 

@@ -5,6 +5,7 @@ use mathlib.Core.Path.{_≡_, ap, refl, subst, sym}
 use Prim.Native.Nat.{_+_, _<_, _≤_, ℕ}
 use native.Mathlib.Omega.{arith}
 use lib.ListN.{length, take}
+use Rattle.cells.specs.Changes.{change-apart}
 use Rattle.steps.specs.Graph.{Graph}
 use Rattle.cells.specs.Empty.{Emptied}
 use Rattle.cells.specs.Pool.{emptyL, row}
@@ -24,7 +25,6 @@ use Rattle.sorting.specs.declared.Sorted.{Sorted}
 use Rattle.sorting.specs.declared.Sorted.the-variants.{SortedBroken, SortedTo}
 use Rattle.tidying.specs.Class.{class-few, class-length, class-short, class-sorts, class-tidied, left-fresh}
 use Rattle.tidying.specs.Copy.{Copies}
-use Rattle.tidying.specs.Extra.{change-apart}
 use Rattle.tidying.specs.Refill.{Refills}
 use Rattle.tidying.specs.Says.{ClassTidied, TidiesClass, UpToDate}
 

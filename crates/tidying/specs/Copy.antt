@@ -7,6 +7,7 @@ use Prim.Native.Nat.{_*_, _+_, _-_, _<_, _≤_, ℕ}
 use native.Mathlib.Omega.{arith}
 use lib.ListN.{length, length-set, set, take}
 use lib.Seq.{ext-getD, getD-set-other, getD-set-same, getD-take, length-take-le}
+use Rattle.layout.specs.Idle.{lent-same}
 use Rattle.lists.specs.Reads.{at}
 use Rattle.lists.specs.Tests.{eq-or}
 use Rattle.cells.specs.Cursor.{Cursor, cursor-low, cursor-start, cursor-step}
@@ -17,7 +18,6 @@ use Rattle.cells.specs.declared.Change.the-variants.{ChangeBroken, ChangeDone}
 use Rattle.layout.specs.Cut.{need, sorting}
 use Rattle.layout.specs.Lent.{Lent, Stored, lent-map, lent-twice}
 use Rattle.layout.specs.View.{View, get-length, view}
-use Rattle.tidying.specs.Extra.{lent-same}
 
 -- what `copy` promises of the work area: where k is the length of the list, the first k words are the list
 pub record Copies (ms : List ℕ) (n a k : ℕ) (r : Change) (s s′ : List ℕ) : Type 0 where

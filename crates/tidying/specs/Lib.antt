@@ -1,4 +1,3 @@
-pub mod Extra
 pub mod Copy
 pub mod Refill
 pub mod Says

@@ -7,8 +7,9 @@ use native.Mathlib.Numerals.{add-one}
 use native.Mathlib.Omega.{arith}
 use lib.ListN.{length, length-set, set, take}
 use lib.Seq.{getD-set-same, set-getD, set-set, take-suc}
+use Rattle.layout.specs.Idle.{lent-same}
 use Rattle.lists.specs.Reads.{at}
-use Rattle.cells.specs.Changes.{Pushed}
+use Rattle.cells.specs.Changes.{Pushed, change-apart}
 use Rattle.cells.specs.Free.{free-push}
 use Rattle.cells.specs.Pool.{Free, Pool, pushL, row}
 use Rattle.cells.specs.declared.Change.{Change}
@@ -16,7 +17,6 @@ use Rattle.cells.specs.declared.Change.the-variants.{ChangeBroken, ChangeDone}
 use Rattle.layout.specs.Cut.{members, need, sorting}
 use Rattle.layout.specs.Lent.{Lent, Loaded, lent-map, lent-twice}
 use Rattle.layout.specs.View.{View, get-length, view}
-use Rattle.tidying.specs.Extra.{change-apart, lent-same}
 
 -- list a with the first i words of s at its end
 unfoldable pub fill : List (List ℕ) → ℕ → List ℕ → ℕ → List (List ℕ)
