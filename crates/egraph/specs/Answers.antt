@@ -33,6 +33,7 @@ use Rattle.holds.specs.Inside.{Near}
 use Rattle.layout.specs.Cut.{need}
 use Rattle.layout.specs.Head.{GoodHead, HeadIs, HeadOk, HeadSays, head-bad, head-good, head-is, numbers}
 use Rattle.layout.specs.View.{hd, view, view-rest}
+use Rattle.layout.specs.Written.{Noted, head-written, noted-hd, written}
 use Rattle.layout.specs.declared.Head.{Head}
 use Rattle.layout.specs.declared.HeadRead.{HeadRead}
 use Rattle.layout.specs.declared.HeadRead.the-variants.{HeadBad, HeadGood}
@@ -176,3 +177,17 @@ past-rest ws h q ws′ e =
 -- a head that stays in range while the words keep their number
 pub ok-still : {len len′ : ℕ} {h k : Head} → Near len h k → len′ ≡ len → HeadOk len′ k
 ok-still {k = k} p e = subst (λ (l : ℕ). HeadOk l k) (sym e) (p .ok)
+
+-- the limits stay: they are no part of the graph, but which adds have room depends on them
+abbrev pub SameLimits : List ℕ → List ℕ → Type 0
+SameLimits ws ws′ = (head-of ws′ .n ≡ head-of ws .n) × (head-of ws′ .m ≡ head-of ws .m)
+
+-- the head was not written
+pub limits-stay : (ws ws′ : List ℕ) → hd ws′ ≡ hd ws → SameLimits ws ws′
+limits-stay ws ws′ e = (ap (λ (l : List ℕ). numbers l .n) e, ap (λ (l : List ℕ). numbers l .m) e)
+
+-- the head was written, with the limits that were read
+pub limits-written : (ws ws1 ws2 : List ℕ) (h k : Head) {len : ℕ} → HeadIs (length ws) (hd ws) h → Near len h k → HeadOk (length ws1) k → Noted ws1 ws2 (written (hd ws1) k) → SameLimits ws ws2
+limits-written ws ws1 ws2 h k q near ok N =
+    let p : k ≡ numbers (hd ws2) = rw (noted-hd N) (head-written (length ws1) (hd ws1) k ok .is) in
+    (sym (ap (λ (s : Head). s .n) p) ∙ near .n-is ∙ ap (λ (s : Head). s .n) (q .is), sym (ap (λ (s : Head). s .m) p) ∙ near .m-is ∙ ap (λ (s : Head). s .m) (q .is))

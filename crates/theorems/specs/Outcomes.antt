@@ -19,7 +19,7 @@ use Rattle.steps.specs.Graph.{Graph}
 use Rattle.steps.specs.Machine.{fresh}
 use Rattle.adding.specs.Says.{Full, Room, kept-for}
 use Rattle.egraph.specs.Adds.{Adding, AddingSays, LookupSays, NodeLadder}
-use Rattle.egraph.specs.Answers.{Answer, Else, Lists, Unless-3, add-says, count-says, find-says, flag-says, head-of, list-says, lookup-says, no-by, node-says, setup-says, union-says, yes-with}
+use Rattle.egraph.specs.Answers.{Answer, Else, Lists, SameLimits, Unless-3, add-says, count-says, find-says, flag-says, head-of, limits-stay, list-says, lookup-says, no-by, node-says, setup-says, union-says, yes-with}
 use Rattle.egraph.specs.Listing.{NodeSays, NodesSays}
 use Rattle.egraph.specs.Reads.{CleanSays, CountSays, EmptySays, FindSays}
 use Rattle.egraph.specs.Setup.{Limits, SetupSays}
@@ -35,6 +35,7 @@ use Rattle.egraph.specs.declared.SetupAnswer.{SetupAnswer}
 use Rattle.egraph.specs.declared.UnionAnswer.{UnionAnswer}
 use Rattle.holds.specs.Holds.{Holds}
 use Rattle.layout.specs.Cut.{need}
+use Rattle.layout.specs.View.{hd}
 use Rattle.layout.specs.declared.Head.{Head}
 
 -- two ends of a ladder's step
@@ -42,18 +43,19 @@ pub both-ends : {B N G X N′ X′ R : Type 0} → B ⊎ G → Else B N G X → 
 both-ends (inl b) s t n x = n (s .no b) (t .no b)
 both-ends (inr g) s t n x = x (s .on g) (t .on g)
 
--- the same answer, and a graph that both hold
+-- the same answer, the same limits, and a graph that both hold
 pub record One (a a′ : Answer) (ws ws′ : List ℕ) : Type 0 where
   pub answer : a ≡ a′
+  pub limits : SameLimits ws ws′
   pub graph : (k : Graph) × Holds ws k × Holds ws′ k
 
 -- refused alike, with no word changed
 refused : {a a′ : Answer} {k : ℕ} {ws ws1 ws1′ : List ℕ} {g : Graph} → Holds ws g → (a ≡ no-by k) × (ws1 ≡ ws) → (a′ ≡ no-by k) × (ws1′ ≡ ws) → One a a′ ws1 ws1′
-refused {g = g} H p q = record { answer = p .0 ∙ sym (q .0); graph = (g, rw (p .1) H, rw (q .1) H) }
+refused {ws1 = ws1} {ws1′ = ws1′} {g = g} H p q = record { answer = p .0 ∙ sym (q .0); limits = limits-stay ws1 ws1′ (ap hd (q .1 ∙ sym (p .1))); graph = (g, rw (p .1) H, rw (q .1) H) }
 
 -- answered alike
-answered : {a a′ : Answer} {vs : List ℕ} {ws1 ws1′ : List ℕ} {g : Graph} → (a ≡ yes-with vs) × Holds ws1 g → (a′ ≡ yes-with vs) × Holds ws1′ g → One a a′ ws1 ws1′
-answered {g = g} p q = record { answer = p .0 ∙ sym (q .0); graph = (g, p .1, q .1) }
+answered : {a a′ : Answer} {vs : List ℕ} (ws : List ℕ) {ws1 ws1′ : List ℕ} {g : Graph} → SameLimits ws ws1 → SameLimits ws ws1′ → (a ≡ yes-with vs) × Holds ws1 g → (a′ ≡ yes-with vs) × Holds ws1′ g → One a a′ ws1 ws1′
+answered ws {g = g} l k p q = record { answer = p .0 ∙ sym (q .0); limits = (k .0 ∙ sym (l .0), k .1 ∙ sym (l .1)); graph = (g, p .1, q .1) }
 
 -- ---- decisions
 
@@ -160,18 +162,18 @@ module _ (ws : List ℕ) (g : Graph) (H : Holds ws g) where
       go p q (some i) k =
           let a = p .found g i H k in
           let b = q .found g i H k in
-          answered {vs = id g ∷ []} {g = g} (a .0, rw (a .1) H) (b .0, rw (b .1) H)
+          answered {vs = id g ∷ []} ws {g = g} (p .limits) (q .limits) (a .0, rw (a .1) H) (b .0, rw (b .1) H)
       go p q none k = room (full-or (head-of ws) (nodeOf x))
         where
           room : Full (head-of ws) (nodeOf x) ⊎ Room (head-of ws) (nodeOf x) → One (add-says r) (add-says r′) ws1 ws1′
           room (inl f) = refused H (p .shut g H k f) (q .shut g H k f)
-          room (inr f) = answered (p .grown g H k f) (q .grown g H k f)
+          room (inr f) = answered ws (p .limits) (q .limits) (p .grown g H k f) (q .grown g H k f)
 
   -- ---- union
 
   pub union-one : (i j : ℕ) (r r′ : UnionAnswer) (ws1 ws1′ : List ℕ) → UnionSays ws i j r ws1 → UnionSays ws i j r′ ws1′ → One (union-says r) (union-says r′) ws1 ws1′
   union-one i j r r′ ws1 ws1′ s t =
-      open-both s t (λ s t. both-ends (far (lt-or i (head-of ws .ids)) (lt-or j (head-of ws .ids))) s t (λ p q. refused H p q) (λ p q. answered (p .sound g H) (q .sound g H)))
+      open-both s t (λ s t. both-ends (far (lt-or i (head-of ws .ids)) (lt-or j (head-of ws .ids))) s t (λ p q. refused H p q) (λ p q. answered ws (p .limits) (q .limits) (p .sound g H) (q .sound g H)))
     where
       far : {N : ℕ} → (i < N) ⊎ (N ≤ i) → (j < N) ⊎ (N ≤ j) → ((N ≤ i) ⊎ (N ≤ j)) ⊎ ((i < N) × (j < N))
       far (inr a) b = inl (inl a)
