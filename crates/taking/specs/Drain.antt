@@ -32,11 +32,12 @@ pub record Startable (us : List (ℕ × ℕ)) (g : Graph) : Type 0 where
   pub soft : (g .clean ≡ false) ⊎ (g .pending ≡ [])
 
 -- the graph that is left, with nothing pending: z is the rebuilt graph, once it is marked clean
-pub record Emptied (u : ℕ) (z : Graph) (y t : ℕ) (v : View) (r : Drained) : Type 0 where
+pub record Emptied (us : List (ℕ × ℕ)) (u : ℕ) (z : Graph) (y t : ℕ) (v : View) (r : Drained) : Type 0 where
   pub head : Head
   pub answer : r ≡ DrainedTo head y t
   pub graph : Graph
   pub rebuilt : z ≡ marked graph true
+  pub start : Startable us graph
   pub empty : graph .pending ≡ []
   pub holds : HoldsAt head u v graph
 
@@ -44,7 +45,7 @@ pub record DrainSays (h : Head) (fuel : ℕ) (ws : List ℕ) (r : Drained) (ws�
   pub inside : Inside (h .n) (h .m) ws ws′
   pub range : (k : Head) (y t : ℕ) → r ≡ DrainedTo k y t → NearIds (length ws) h k
   pub sound : (g : Graph) (u : ℕ) (us : List (ℕ × ℕ)) → HoldsAt h u (view (h .n) (h .m) ws) g → Startable us g
-      → (y t : ℕ) (z : Graph) → Rebuild g y t z → t < fuel → Emptied u z y t (view (h .n) (h .m) ws′) r
+      → (y t : ℕ) (z : Graph) → Rebuild g y t z → t < fuel → Emptied us u z y t (view (h .n) (h .m) ws′) r
 
 -- ---- the invariant
 
@@ -130,7 +131,7 @@ module _ (h : Head) (fuel : ℕ) (ws₀ : List ℕ) (k : Head) (ws : List ℕ) (
           let a = at-end us u (p .graph) z (p .yes-left) (p .left) (p .holds) (p .start) (p .rest) e in
           let ey : yes ≡ y = omega (arith, p .yes-is, a .0) in
           let et : taken ≡ t = omega (arith, p .taken-is, a .1) in
-          record { head = k; answer = λ i. DrainedTo k (ey i) (et i); graph = p .graph; rebuilt = a .2; empty = a .3; holds = a .4 };
+          record { head = k; answer = λ i. DrainedTo k (ey i) (et i); graph = p .graph; rebuilt = a .2; start = p .start; empty = a .3; holds = a .4 };
     }
 
     -- never broken on words that hold a graph
