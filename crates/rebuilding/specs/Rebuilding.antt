@@ -23,11 +23,10 @@ use Rattle.rechilding.specs.All.{RechildsAll}
 use Rattle.rechilding.specs.Rechild.{Fit}
 use Rattle.taking.specs.Drain.{Startable}
 use Rattle.taking.specs.Enough.{DrainsAll}
-use Rattle.taking.specs.Entry.{inside-near, near-then, view-near}
 use Rattle.taking.specs.declared.Drained.{Drained}
 use Rattle.taking.specs.declared.Drained.the-variants.{DrainedBroken, DrainedTo}
 use Rattle.tidying.specs.Says.{Tidies, cleaned}
-use Rattle.uniting.specs.Says.{NearIds}
+use Rattle.uniting.specs.Near.{NearIds, inside-near, near-then, view-near}
 
 -- ---- the end of a rebuild
 

@@ -18,12 +18,12 @@ use Rattle.holds.specs.Inside.{Inside, inside-same, inside-then}
 use Rattle.layout.specs.Head.{HeadOk}
 use Rattle.layout.specs.View.{View, view}
 use Rattle.layout.specs.declared.Head.{Head}
-use Rattle.taking.specs.Entry.{EntrySays, Open, inside-near, near-then, view-near}
+use Rattle.taking.specs.Entry.{EntrySays, Open}
 use Rattle.taking.specs.declared.Drained.{Drained}
 use Rattle.taking.specs.declared.Drained.the-variants.{DrainedBroken, DrainedTo}
 use Rattle.taking.specs.declared.Entry.{Entry}
 use Rattle.taking.specs.declared.Entry.the-variants.{EntryBroken, EntryNone, EntryOne}
-use Rattle.uniting.specs.Says.{NearIds}
+use Rattle.uniting.specs.Near.{NearIds, inside-near, near-then, view-near}
 
 -- a graph that a rebuild may start from: unclean, or with nothing pending
 pub record Startable (us : List (ℕ × ℕ)) (g : Graph) : Type 0 where

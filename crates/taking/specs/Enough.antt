@@ -23,7 +23,7 @@ use Rattle.taking.specs.Drain.{DrainSays, Emptied, Startable}
 use Rattle.taking.specs.Places.{parents-pending, parents-size}
 use Rattle.taking.specs.declared.Drained.{Drained}
 use Rattle.taking.specs.declared.Drained.the-variants.{DrainedTo}
-use Rattle.uniting.specs.Says.{NearIds}
+use Rattle.uniting.specs.Near.{NearIds}
 
 -- an entry of pending stands for as many ids as there are places, or for one; and each merge pushes no more than all places
 abbrev pub enough : Head → ℕ
