@@ -1,1 +1,3 @@
 pub mod ClassWalk
+pub mod ClassCount
+pub mod ClassHeld
