@@ -76,10 +76,13 @@ module _ {h : Head} {u : ℕ} {v : View} {g : Graph} (H : HoldsAt h u v g) where
   -- ---- no id that is met is broken
 
   pub members-fine : (r : ℕ) → r < h .n → Fine (v .members) (v .rows) (h .n) (h .m) (h .ids) r
-  members-fine r l x m =
-      let k : Mem x (row (H .members .lists) r) = rw (ids-row r l) at m in
-      let s : x < h .ids = H .members .in-class r x k .0 in
-      (s, sane (v .rows) (h .n) (h .m) (g .nodes) (H .nodes .keys) (H .nodes .rows) x (omega (arith, H .ids-are)))
+  members-fine r l = record { all = each }
+    where
+      each : (x : ℕ) → Mem x (class-ids (v .members) (h .n) r) → (x < h .ids) × Sane (v .rows) (h .n) (h .m) x
+      each x m =
+          let k : Mem x (row (H .members .lists) r) = rw (ids-row r l) at m in
+          let s : x < h .ids = H .members .in-class r x k .0 in
+          (s, sane (v .rows) (h .n) (h .m) (g .nodes) (H .nodes .keys) (H .nodes .rows) x (omega (arith, H .ids-are)))
 
   -- ---- in a clean graph
 

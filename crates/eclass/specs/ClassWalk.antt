@@ -33,8 +33,8 @@ abbrev pub class-read : List ℕ → List ℕ → ℕ → ℕ → ℕ → List T
 class-read ms rs n m r = map (key-read rs n m) (class-ids ms n r)
 
 -- every id met is one of the N ids, and its row is within bounds
-abbrev pub Fine : List ℕ → List ℕ → ℕ → ℕ → ℕ → ℕ → Type 0
-Fine ms rs n m N r = (x : ℕ) → Mem x (class-ids ms n r) → (x < N) × Sane rs n m x
+pub record Fine (ms rs : List ℕ) (n m N r : ℕ) : Type 0 where
+  pub all : (x : ℕ) → Mem x (class-ids ms n r) → (x < N) × Sane rs n m x
 
 -- ---- laws of the model
 

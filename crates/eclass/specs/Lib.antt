@@ -1,3 +1,4 @@
 pub mod ClassWalk
 pub mod ClassCount
 pub mod ClassHeld
+pub mod Checks
