@@ -96,3 +96,8 @@ pub fn check(ws: &[u32], h: Head) -> bool
     }
     true
 }
+
+pub mod ops;
+
+pub use ops::measure_ops;
+pub use ops::put_ops;
