@@ -44,7 +44,7 @@ length-back ms n zero cur = refl
 length-back ms n (suc k) cur =
     length-append (back ms n k (at ms (n + n + n + cur))) (cur ∷ []) ∙ omega (arith, length-back ms n k (at ms (n + n + n + cur)))
 
-back-step : (ms : List ℕ) (n k cur : ℕ) → 0 < k → back ms n k cur ≡ back ms n (k - 1) (at ms (n + n + n + cur)) ++ (cur ∷ [])
+pub back-step : (ms : List ℕ) (n k cur : ℕ) → 0 < k → back ms n k cur ≡ back ms n (k - 1) (at ms (n + n + n + cur)) ++ (cur ∷ [])
 unfolding back
 back-step ms n zero cur h = absurd (omega arith)
 back-step ms n (suc k) cur h = let e : suc k - 1 ≡ k = omega arith in rw e refl

@@ -4,3 +4,4 @@ pub mod ClassHeld
 pub mod Checks
 pub mod Pieces
 pub mod Ops
+pub mod Lists

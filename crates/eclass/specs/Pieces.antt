@@ -12,6 +12,7 @@ use lib.ListN.{drop, length, length-append, set, take, take-append-drop}
 use lib.Seq.{drop-at, length-sets, length-take-le, sets, sets-eq, take-append-le}
 use Rattle.lists.specs.Keeps.{filter-append, upto}
 use Rattle.lists.specs.Members.{Mem, here, there}
+use Rattle.lists.specs.Sets.{sets-after, sets-stand}
 use Rattle.lists.specs.Tests.{when}
 
 -- ---- the pieces of the first k ids
@@ -77,6 +78,14 @@ wrote-join {out} {mid} {out′} {xs} {ys} {p} {q} {r} a b = record {
   next = omega (arith, a .next, b .next, length-append xs ys);
   size = b .size ∙ a .size;
 }
+
+-- words written from the start: they stand there, and what lies behind them is as it was
+module _ {out xs out′ : List ℕ} {r : ℕ} (w : Wrote out 0 xs r out′) (fits : length xs ≤ length out) where
+  pub wrote-front : take (length xs) out′ ≡ xs
+  wrote-front = rw (w .exact) (sets-stand out xs 0 (omega arith))
+
+  pub wrote-back : drop (length xs) out′ ≡ drop (length xs) out
+  wrote-back = let e : 0 + length xs ≡ length xs = omega arith in rw (w .exact) (rw e at (sets-after out xs 0 (omega arith)))
 
 -- the loop that writes the pieces: its start, the room for one more, and one more written
 module _ (f : ℕ → List ℕ) (out : List ℕ) where

@@ -4,4 +4,5 @@ pub mod Reads
 pub mod Unions
 pub mod Stored
 pub mod Listing
+pub mod ClassLists
 pub mod Adds

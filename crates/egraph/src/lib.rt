@@ -101,6 +101,11 @@ pub mod listing;
 pub use listing::id_to_node;
 pub use listing::nodes;
 
+pub mod classes;
+
+pub use classes::classes_for_op;
+pub use classes::total_number_of_nodes;
+
 pub mod adds;
 
 pub use adds::add;
