@@ -78,6 +78,10 @@ module _ (ms : List ℕ) (n r : ℕ) where
   unfolding back
   walk-end P left cur e w = let q : class-ids ms n r ≡ w .done = rw e at (w .whole) in subst P (sym q) (w .kept)
 
+-- what a walk over a class that is fine meets is an id, whatever it keeps
+pub walk-low : (ms rs : List ℕ) (n m N r : ℕ) (P : List ℕ → Type 0) (left cur : ℕ) → 0 < left → Fine ms rs n m N r → Walk ms n r left cur P → cur < N
+walk-low ms rs n m N r P left cur h f w = f .all cur (walk-next ms n r P left cur h w) .0
+
 -- ---- on words that hold lists
 
 module _ (ms : List ℕ) (n m a : ℕ) (xs : List ℕ) (R : Row ms n m a xs) where

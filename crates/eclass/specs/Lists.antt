@@ -28,7 +28,7 @@ use Rattle.rows.specs.declared.Fetched.{Fetched}
 use Rattle.spelling.specs.Listed.{length-spell, spell-snoc}
 use Rattle.spelling.specs.Puts.{Puts}
 use Rattle.eclass.specs.ClassHeld.{nodes-counted, nodes-read, roots-listed}
-use Rattle.eclass.specs.ClassWalk.{Fine, Walk, back, back-step, class-ids, class-read, len-of, walk-end, walk-more, walk-next, walk-start}
+use Rattle.eclass.specs.ClassWalk.{Walk, back, back-step, class-ids, class-read, len-of, walk-end, walk-more, walk-start}
 use Rattle.eclass.specs.Pieces.{Wrote, flat-same, pieces, pieces-flat, sets-front, wrote, wrote-none}
 
 -- ---- the model
@@ -105,10 +105,6 @@ module _ (ms rs : List ℕ) (n m r : ℕ) where
   pub long-end : (left cur w : ℕ) → left ≡ 0 → w + 11 * left ≤ 11 * len-of ms n r → Walk ms n r left cur (Measuring rs n m w) → ClassLong ms rs n m r w
   long-end left cur w e f k = record { exact = walk-end ms n r (Measuring rs n m w) left cur e k .exact; few = omega arith }
 
-  -- what a walk meets, whatever it keeps, is an id
-  pub walk-low : (P : List ℕ → Type 0) (N left cur : ℕ) → 0 < left → Fine ms rs n m N r → Walk ms n r left cur P → cur < N
-  walk-low P N left cur h f w = f .all cur (walk-next ms n r P left cur h w) .0
-
 -- ---- the nodes of a class written, from the last to the first
 
 -- out is the slice before, mid what it is now; the words of those that were passed stand from e to the end
@@ -141,8 +137,8 @@ pub record Placed (ms rs : List ℕ) (n m r : ℕ) (out : List ℕ) (p : ℕ) (o
   pub size : length out′ ≡ length out
 
 -- how far the start of what is written lies behind p: as far as the words of those that are to come need
-abbrev pub Ahead : List ℕ → List ℕ → ℕ → ℕ → ℕ → ℕ → ℕ → ℕ → Type 0
-Ahead ms rs n m p left cur e = e ≡ p + length (spelled rs n m (back ms n left cur))
+pub record Ahead (ms rs : List ℕ) (n m p left cur e : ℕ) : Type 0 where
+  pub far : e ≡ p + length (spelled rs n m (back ms n left cur))
 
 module _ (ms rs : List ℕ) (n m r : ℕ) (out : List ℕ) (p end : ℕ) where
   pub place-start : (k cur : ℕ) → k ≡ len-of ms n r → cur ≡ at ms r → Walk ms n r k cur (Placing rs n m out out end end)
@@ -150,11 +146,11 @@ module _ (ms rs : List ℕ) (n m r : ℕ) (out : List ℕ) (p end : ℕ) where
       walk-start ms n r (Placing rs n m out out end end) k cur ek ec (record { exact = rw (spelled-none rs n m) refl; ends = rw (spelled-none rs n m) (omega arith) })
 
   pub ahead-start : (w k cur : ℕ) → k ≡ len-of ms n r → cur ≡ at ms r → ClassLong ms rs n m r w → end ≡ p + w → Ahead ms rs n m p k cur end
-  ahead-start w k cur ek ec l e = rw (ek, ec) (omega (arith, l .exact))
+  ahead-start w k cur ek ec l e = record { far = rw (ek, ec) (omega (arith, l .exact)) }
 
   module _ (left cur e : ℕ) (some : 0 < left) (a : Ahead ms rs n m p left cur e) where
     split : e ≡ p + (length (spelled rs n m (back ms n (left - 1) (at ms (n + n + n + cur)))) + length (words (key-read rs n m cur)))
-    split = a ∙ rw (back-step ms n left cur some, spelled-more rs n m (back ms n (left - 1) (at ms (n + n + n + cur))) cur) refl
+    split = a .far ∙ rw (back-step ms n left cur some, spelled-more rs n m (back ms n (left - 1) (at ms (n + n + n + cur))) cur) refl
 
     -- the words of cur fit in front
     pub ahead-room : length (words (key-read rs n m cur)) ≤ e
@@ -162,7 +158,7 @@ module _ (ms rs : List ℕ) (n m r : ℕ) (out : List ℕ) (p end : ℕ) where
 
     module _ (mid next : List ℕ) (e′ link : ℕ) (d : Before rs n m cur e mid e′ next) (q : link ≡ at ms (n + n + n + cur)) where
       pub ahead-more : Ahead ms rs n m p (left - 1) link e′
-      ahead-more = rw q (omega (arith, split, d .start))
+      ahead-more = record { far = rw q (omega (arith, split, d .start)) }
 
       pub place-more : end ≤ length out → Walk ms n r left cur (Placing rs n m out mid e end) → Walk ms n r (left - 1) link (Placing rs n m out next e′ end)
       place-more fits w = walk-more ms n r (Placing rs n m out mid e end) (Placing rs n m out next e′ end) left cur link some q go w
@@ -180,7 +176,7 @@ module _ (ms rs : List ℕ) (n m r : ℕ) (out : List ℕ) (p end : ℕ) where
   unfolding back
   place-end left cur e mid z a w =
       let P = walk-end ms n r (Placing rs n m out mid e end) left cur z w in
-      let b : e ≡ p + length (spelled rs n m []) = rw z at a in
+      let b : e ≡ p + length (spelled rs n m []) = rw z at (a .far) in
       let s : e ≡ p = b ∙ rw (spelled-none rs n m) (omega arith) in
       let x : mid ≡ sets out p (spelled rs n m (class-ids ms n r)) = rw s at (P .exact) in
       record { exact = x; size = ap length x ∙ length-sets out p (spelled rs n m (class-ids ms n r)) }
@@ -204,6 +200,9 @@ module _ (ms rs : List ℕ) (n m r : ℕ) where
 
   pub piece-skip : (k : ℕ) → k ≡ len-of ms n r → k ≡ 0 → (out : List ℕ) (p : ℕ) → Wrote out p (class-piece ms rs n m r) p out
   piece-skip k e z out p = rw (piece-none (sym e ∙ z)) (wrote-none out p)
+
+  pub piece-room : (k w : ℕ) → k ≡ len-of ms n r → 0 < k → ClassLong ms rs n m r w → (len p : ℕ) → p + length (class-piece ms rs n m r) ≤ len → p + 2 + w ≤ len
+  piece-room k w e s l len p fits = omega (arith, piece-long k w e s l)
 
   -- the number and the count in front of the nodes
   pub piece-put : (k w : ℕ) → k ≡ len-of ms n r → 0 < k → ClassLong ms rs n m r w → (out mid out′ : List ℕ) (p : ℕ) → p + length (class-piece ms rs n m r) ≤ length out

@@ -24,7 +24,7 @@ use Rattle.rows.specs.Promise.{Key}
 use Rattle.rows.specs.Read.{key-read}
 use Rattle.rows.specs.declared.Fetched.{Fetched}
 use Rattle.eclass.specs.ClassHeld.{op-listed}
-use Rattle.eclass.specs.ClassWalk.{Fine, Walk, class-ids, class-read, len-of, walk-end, walk-more, walk-next, walk-start}
+use Rattle.eclass.specs.ClassWalk.{Walk, class-ids, class-read, len-of, walk-end, walk-more, walk-next, walk-start}
 use Rattle.eclass.specs.Pieces.{Wrote, pieces, pieces-filter, wrote, wrote-none}
 
 -- ---- the model
@@ -67,9 +67,6 @@ pub record NoneHas (rs : List ℕ) (n m o : ℕ) (d : List ℕ) : Type 0 where
 module _ (ms rs : List ℕ) (n m o r : ℕ) where
   pub has-start : (k cur : ℕ) → k ≡ len-of ms n r → cur ≡ at ms r → Walk ms n r k cur (NoneHas rs n m o)
   has-start k cur ek ec = walk-start ms n r (NoneHas rs n m o) k cur ek ec (record { none = λ x m. absurd (mem-nil m) })
-
-  pub has-low : (N left cur : ℕ) → 0 < left → Fine ms rs n m N r → Walk ms n r left cur (NoneHas rs n m o) → cur < N
-  has-low N left cur h f w = f .all cur (walk-next ms n r (NoneHas rs n m o) left cur h w) .0
 
   pub has-more : (left cur link : ℕ) (b : Bool) → 0 < left → link ≡ at ms (n + n + n + cur) → Says b (OpIs rs n m o cur) → b ≡ false → Walk ms n r left cur (NoneHas rs n m o)
       → Walk ms n r (left - 1) link (NoneHas rs n m o)

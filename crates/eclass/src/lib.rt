@@ -101,3 +101,8 @@ pub mod ops;
 
 pub use ops::measure_ops;
 pub use ops::put_ops;
+
+pub mod listing;
+
+pub use listing::measure_classes;
+pub use listing::put_classes;

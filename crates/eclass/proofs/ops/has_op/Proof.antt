@@ -1,8 +1,8 @@
 use native.Mathlib.Omega.{arith}
 use Rattle.layout.specs.Head.{ok-fits}
 use Rattle.layout.specs.View.{view}
-use Rattle.eclass.specs.ClassWalk.{Walk}
-use Rattle.eclass.specs.Ops.{NoneHas, has-end, has-found, has-low, has-more, has-start}
+use Rattle.eclass.specs.ClassWalk.{Walk, walk-low}
+use Rattle.eclass.specs.Ops.{NoneHas, has-end, has-found, has-more, has-start}
 use Rattle.eclass.proofs.ops.has_op.Statement.{statement}
 use Rattle.eclass.proofs.ops.has_op.Tie as tie
 
@@ -22,13 +22,13 @@ loop-holds : tie.Need-loop-holds Inv-loop μ-loop
 loop-holds c = has-start _ _ _ _ _ _ _ _ (c .before .len .ensures .exact) (c .last .ensures .exact)
 
 op-is-requires : tie.Need-op-is-requires Inv-loop μ-loop
-op-is-requires c κs = (c .before .before .before .before .before .pre .0, omega (arith, (c .before .before .before .before .before .pre .0 .ids-in), has-low _ _ _ _ _ _ _ _ _ (c .loop-test .taken) (c .before .before .before .before .before .pre .1 .1) (c .before .loop .inv)))
+op-is-requires c κs = (c .before .before .before .before .before .pre .0, omega (arith, (c .before .before .before .before .before .pre .0 .ids-in), walk-low _ _ _ _ _ _ _ _ _ (c .loop-test .taken) (c .before .before .before .before .before .pre .1 .1) (c .before .loop .inv)))
 
 returns : tie.Need-returns Inv-loop μ-loop
 returns c = has-found _ _ _ _ _ _ _ _ _ (c .before .before .loop-test .taken) (c .before .op-is .ensures) (c .if1 .taken) (c .before .before .before .loop .inv)
 
 link-requires : tie.Need-link-requires Inv-loop μ-loop
-link-requires c κs = (ok-fits (c .before .before .before .before .before .before .before .pre .0), omega (arith, (c .before .before .before .before .before .before .before .pre .0 .ids-in), has-low _ _ _ _ _ _ _ _ _ (c .before .before .loop-test .taken) (c .before .before .before .before .before .before .before .pre .1 .1) (c .before .before .before .loop .inv)))
+link-requires c κs = (ok-fits (c .before .before .before .before .before .before .before .pre .0), omega (arith, (c .before .before .before .before .before .before .before .pre .0 .ids-in), walk-low _ _ _ _ _ _ _ _ _ (c .before .before .loop-test .taken) (c .before .before .before .before .before .before .before .pre .1 .1) (c .before .before .before .loop .inv)))
 
 sub-left : tie.Need-sub-left Inv-loop μ-loop
 sub-left c = omega arith
