@@ -9,10 +9,11 @@ use Prim.Native.Nat.{_<_, _≤_, ℕ}
 use native.Mathlib.Omega.{arith}
 use lib.ListN.{length}
 use Rattle.lists.specs.Tests.{Says}
-use Rattle.steps.specs.Classes.{classes-for-op, total-number-of-nodes}
+use Rattle.steps.specs.Classes.{classes, classes-for-op, total-number-of-nodes}
 use Rattle.steps.specs.Graph.{Graph}
 use Rattle.eclass.specs.Checks.{Totals, Unbroken, unbroken}
 use Rattle.eclass.specs.ClassHeld.{total-few, total-is}
+use Rattle.eclass.specs.Lists.{class-piece, classes-are}
 use Rattle.eclass.specs.Ops.{op-piece, ops-are}
 use Rattle.eclass.specs.Pieces.{Wrote, pieces, wrote-back, wrote-front}
 use Rattle.eclass.specs.declared.Total.{Total}
@@ -105,6 +106,13 @@ ForOpOpen ws o out r out′ = ListOpen (λ (g : Graph). classes-for-op g o) ws o
 abbrev pub ForOpSays : List ℕ → ℕ → List ℕ → ListAnswer → List ℕ → Type 0
 ForOpSays ws o out r out′ = ListSays (λ (g : Graph). classes-for-op g o) ws out r out′
 
+-- `classes`
+abbrev pub ClassesOpen : List ℕ → List ℕ → ListAnswer → List ℕ → Type 0
+ClassesOpen = ListOpen classes
+
+abbrev pub ClassesSays : List ℕ → List ℕ → ListAnswer → List ℕ → Type 0
+ClassesSays = ListSays classes
+
 -- as the head is read
 module _ (list : Graph → List ℕ) (ws out : List ℕ) (r : HeadRead) (s : HeadSays (length ws) (hd ws) r) where
   pub list-shut : r ≡ HeadBad → ListSays list ws out (ListNot BadHead) out
@@ -159,3 +167,8 @@ module _ (list : Graph → List ℕ) (ws : List ℕ) (h : Head) (q : HeadIs (len
 pub its-ops : (ws : List ℕ) (h : Head) → HeadIs (length ws) (hd ws) h → h .clean ≡ true → (o : ℕ) (g : Graph) → Holds ws g
     → pieces (op-piece (view (h .n) (h .m) ws .members) (view (h .n) (h .m) ws .rows) (h .n) (h .m) o) (h .ids) ≡ classes-for-op g o
 its-ops ws h q c o g H = ops-are (holds-in ws h g q H) (its-clean ws h q c g H) o
+
+-- and of all classes
+pub its-classes : (ws : List ℕ) (h : Head) → HeadIs (length ws) (hd ws) h → h .clean ≡ true → (g : Graph) → Holds ws g
+    → pieces (class-piece (view (h .n) (h .m) ws .members) (view (h .n) (h .m) ws .rows) (h .n) (h .m)) (h .ids) ≡ classes g
+its-classes ws h q c g H = classes-are (holds-in ws h g q H) (its-clean ws h q c g H)

@@ -1,8 +1,8 @@
 use Rattle.layout.specs.Head.{head-is}
 use Rattle.egraph.specs.ClassLists.{list-opened, list-shut, list-unclean}
 use borrow.Author.Needs.{needs}
-use Rattle.egraph.proofs.classes.classes_for_op.Statement.{statement}
-use Rattle.egraph.proofs.classes.classes_for_op.Tie as tie
+use Rattle.egraph.proofs.class_lists.classes_for_op.Statement.{statement}
+use Rattle.egraph.proofs.class_lists.classes_for_op.Tie as tie
 
 read-head-requires : tie.Need-read-head-requires
 read-head-requires c κs = search needs

@@ -5,7 +5,7 @@ ghost use Prim.Native.Nat.{_<_};
 ghost use lib.ListN.{length};
 ghost use Rattle.layout.specs.Head.{HeadIs};
 ghost use Rattle.layout.specs.View.{hd};
-ghost use Rattle.egraph.specs.ClassLists.{ForOpOpen, ForOpSays, TotalOpen, TotalSays};
+ghost use Rattle.egraph.specs.ClassLists.{ClassesOpen, ClassesSays, ForOpOpen, ForOpSays, TotalOpen, TotalSays};
 use super::CountAnswer;
 use super::ListAnswer;
 use super::Refusal;
@@ -62,6 +62,36 @@ pub fn classes_for_op(ws: &[u32], op: Op, out: &mut [u32]) -> ListAnswer
         layout::HeadRead::HeadGood(h) => {
             if h.clean {
                 return for_op_open(ws, h, op, out);
+            }
+            ListAnswer::ListNot(Refusal::NotRebuilt)
+        }
+    }
+}
+
+fn classes_open(ws: &[u32], h: Head, out: &mut [u32]) -> ListAnswer
+    requires { ⌜ HeadIs (length (now ws)) (hd (now ws)) h ⌝ }
+    requires { ⌜ h .clean ≡ true ⌝ }
+    ensures { λ r. ⌜ ClassesOpen (now (ws .entry)) (now (out .entry)) r (now (out .exit)) ⌝ }
+{
+    if !eclass::check(ws, h) {
+        return ListAnswer::ListNot(Refusal::BrokenWords);
+    }
+    let k = eclass::measure_classes(ws, h);
+    if out.len() < k {
+        return ListAnswer::ListNot(Refusal::TooLong);
+    }
+    ListAnswer::ListWords(eclass::put_classes(ws, h, out))
+}
+
+// All classes in ascending root id, in words: for each its root, its number of nodes, and these nodes.
+pub fn classes(ws: &[u32], out: &mut [u32]) -> ListAnswer
+    ensures { λ r. ⌜ ClassesSays (now (ws .entry)) (now (out .entry)) r (now (out .exit)) ⌝ }
+{
+    match layout::read_head(ws) {
+        layout::HeadRead::HeadBad => ListAnswer::ListNot(Refusal::BadHead),
+        layout::HeadRead::HeadGood(h) => {
+            if h.clean {
+                return classes_open(ws, h, out);
             }
             ListAnswer::ListNot(Refusal::NotRebuilt)
         }

@@ -2,8 +2,8 @@ use native.Mathlib.Omega.{arith}
 use borrow.Author.Tests.{not-false, not-true}
 use Rattle.egraph.specs.ClassLists.{its-ops, list-broken, list-long, list-written}
 use borrow.Author.Needs.{needs}
-use Rattle.egraph.proofs.classes.for_op_open.Statement.{statement}
-use Rattle.egraph.proofs.classes.for_op_open.Tie as tie
+use Rattle.egraph.proofs.class_lists.for_op_open.Statement.{statement}
+use Rattle.egraph.proofs.class_lists.for_op_open.Tie as tie
 
 check-requires : tie.Need-check-requires
 check-requires c κs = search needs

@@ -1,8 +1,8 @@
 use native.Mathlib.Omega.{arith}
 use Rattle.egraph.specs.ClassLists.{total-broken, total-counted}
 use borrow.Author.Needs.{needs}
-use Rattle.egraph.proofs.classes.total_open.Statement.{statement}
-use Rattle.egraph.proofs.classes.total_open.Tie as tie
+use Rattle.egraph.proofs.class_lists.total_open.Statement.{statement}
+use Rattle.egraph.proofs.class_lists.total_open.Tie as tie
 
 count-nodes-requires : tie.Need-count-nodes-requires
 count-nodes-requires c κs = search needs

@@ -3,8 +3,8 @@ use Rattle.layout.specs.Head.{head-is}
 use Rattle.egraph.specs.Answers.{opened, shut}
 use Rattle.egraph.specs.ClassLists.{cleaned, unclean}
 use borrow.Author.Needs.{needs}
-use Rattle.egraph.proofs.classes.total_number_of_nodes.Statement.{statement}
-use Rattle.egraph.proofs.classes.total_number_of_nodes.Tie as tie
+use Rattle.egraph.proofs.class_lists.total_number_of_nodes.Statement.{statement}
+use Rattle.egraph.proofs.class_lists.total_number_of_nodes.Tie as tie
 
 read-head-requires : tie.Need-read-head-requires
 read-head-requires c κs = search needs
