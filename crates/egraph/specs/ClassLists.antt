@@ -18,7 +18,7 @@ use Rattle.eclass.specs.Ops.{op-piece, ops-are}
 use Rattle.eclass.specs.Pieces.{Wrote, pieces, wrote-back, wrote-front}
 use Rattle.eclass.specs.declared.Total.{Total}
 use Rattle.eclass.specs.declared.Total.the-variants.{TotalBroken, TotalIs}
-use Rattle.egraph.specs.Answers.{Answer, Else, Lists, Unless-3, count-says, head-of, list-says, never, nine, no-by, opened, pass, shut, stop, yes-with}
+use Rattle.egraph.specs.Answers.{Answer, Else, ListOpen, Lists, Unless-3, count-says, head-of, list-says, never, nine, no-by, opened, pass, shut, stop, yes-with}
 use Rattle.egraph.specs.Listing.{words≢not}
 use Rattle.egraph.specs.declared.CountAnswer.{CountAnswer}
 use Rattle.egraph.specs.declared.CountAnswer.the-variants.{CountIs, CountNot}
@@ -64,6 +64,11 @@ TotalSays ws r =
     (Unless-7 ws (count-says r ≡ no-by 7)
     (TotalOpen ws r))
 
+-- in terms of a graph that the words hold
+pub total-held : (ws : List ℕ) (g : Graph) → Holds ws g → (r : CountAnswer) → TotalSays ws r
+    → Else (g .clean ≡ false) (count-says r ≡ no-by 7) (g .clean ≡ true) (count-says r ≡ yes-with (total-number-of-nodes g ∷ []))
+total-held ws g H r s = let t = s .on (H .good) in record { no = λ e. t .no (held-clean H ∙ e); on = λ e. t .on (held-clean H ∙ e) .sound g H }
+
 module _ (ws : List ℕ) (h : Head) (q : HeadIs (length ws) (hd ws) h) (c : h .clean ≡ true) where
   -- a graph that these words hold is clean
   its-clean : (g : Graph) → Holds ws g → g .clean ≡ true
@@ -84,13 +89,6 @@ module _ (ws : List ℕ) (h : Head) (q : HeadIs (length ws) (hd ws) h) (c : h .c
 
 -- ---- lists
 
--- what is left for a list of a graph, once the head is good and says that the graph is clean
-pub record ListOpen (list : Graph → List ℕ) (ws out : List ℕ) (r : ListAnswer) (out′ : List ℕ) : Type 0 where
-  pub inside : (k : ℕ) → r ≡ ListWords k → k ≤ length out
-  pub size : length out′ ≡ length out
-  pub refused : (k : ℕ) → list-says r ≡ no-by k → ((k ≡ 9) ⊎ (k ≡ 8)) × (out′ ≡ out)
-  pub sound : (g : Graph) → Holds ws g → Lists (list g) out r out′
-
 -- whatever the words, an answer counts words of out
 pub record ListSays (list : Graph → List ℕ) (ws out : List ℕ) (r : ListAnswer) (out′ : List ℕ) : Type 0 where
   pub inside : (k : ℕ) → r ≡ ListWords k → k ≤ length out
@@ -98,6 +96,11 @@ pub record ListSays (list : Graph → List ℕ) (ws out : List ℕ) (r : ListAns
       Unless-3 ws ((list-says r ≡ no-by 3) × (out′ ≡ out))
       (Unless-7 ws ((list-says r ≡ no-by 7) × (out′ ≡ out))
       (ListOpen list ws out r out′))
+
+-- in terms of a graph that the words hold
+pub list-held : (list : Graph → List ℕ) (ws : List ℕ) (g : Graph) → Holds ws g → (out : List ℕ) (r : ListAnswer) (out′ : List ℕ) → ListSays list ws out r out′
+    → Else (g .clean ≡ false) ((list-says r ≡ no-by 7) × (out′ ≡ out)) (g .clean ≡ true) (Lists (list g) out r out′)
+list-held list ws g H out r out′ s = let t = s .says .on (H .good) in record { no = λ e. t .no (held-clean H ∙ e); on = λ e. t .on (held-clean H ∙ e) .sound g H }
 
 -- `classes_for_op`
 abbrev pub ForOpOpen : List ℕ → ℕ → List ℕ → ListAnswer → List ℕ → Type 0
