@@ -3,6 +3,7 @@
 -- Assumes nothing.
 use mathlib.Core.Bool.{Bool, false, true}
 use mathlib.Core.List.{List, [], _∷_, cons≢nil}
+use mathlib.Core.Logic.{_⊎_}
 use mathlib.Core.Path.{_∙_, _≡_, ap, subst, sym}
 use Prim.Native.Nat.{_<_, _≤_, ℕ}
 use lib.ListN.{drop, length, take}
@@ -132,6 +133,13 @@ pub record Lists (xs out : List ℕ) (r : ListAnswer) (out′ : List ℕ) : Type
   pub long : length out < length xs → (list-says r ≡ no-by 8) × (out′ ≡ out)
   pub fits : length xs ≤ length out
       → (list-says r ≡ yes-with (length xs ∷ [])) × (take (length xs) out′ ≡ xs) × (drop (length xs) out′ ≡ drop (length xs) out)
+
+-- what is left for a list of a graph, once nothing before 9 refuses it: 9 or 8, with the slice as it was, or words of the slice; and on words that hold a graph its list
+pub record ListOpen (list : Graph → List ℕ) (ws out : List ℕ) (r : ListAnswer) (out′ : List ℕ) : Type 0 where
+  pub inside : (k : ℕ) → r ≡ ListWords k → k ≤ length out
+  pub size : length out′ ≡ length out
+  pub refused : (k : ℕ) → list-says r ≡ no-by k → ((k ≡ 9) ⊎ (k ≡ 8)) × (out′ ≡ out)
+  pub sound : (g : Graph) → Holds ws g → Lists (list g) out r out′
 
 -- ---- the ladder of refusals, in document 01's order: refused where Bad, and else what comes after
 

@@ -2,6 +2,7 @@
 -- answer, and there is one graph that the words of both hold. By holds' `determined` any other graph that either holds is that one but for the table's dead keys, which
 -- no answer shows.
 -- Assumes nothing.
+use mathlib.Core.Bool.{Bool, false, true}
 use mathlib.Core.List.{List, [], _++_, _∷_}
 use mathlib.Core.Logic.{_⊎_, inl, inr}
 use mathlib.Core.Option.{Option, none, some}
@@ -14,7 +15,7 @@ use Rattle.lists.specs.Tests.{lt-or}
 use Rattle.language.specs.Struct.{nodeOf}
 use Rattle.language.specs.Term.{Term, places}
 use Rattle.language.specs.declared.Node.{Node}
-use Rattle.steps.specs.Classes.{nodes}
+use Rattle.steps.specs.Classes.{classes, classes-for-op, nodes}
 use Rattle.steps.specs.Forced.{Made}
 use Rattle.steps.specs.Graph.{Graph}
 use Rattle.steps.specs.Machine.{fresh}
@@ -22,6 +23,7 @@ use Rattle.closure.specs.Ends.{ends}
 use Rattle.adding.specs.Says.{Full, Room, kept-for}
 use Rattle.egraph.specs.Adds.{Adding, AddingSays, LookupSays, NodeLadder}
 use Rattle.egraph.specs.Answers.{Answer, Else, Lists, SameLimits, Unless-3, add-says, count-says, find-says, flag-says, head-of, limits-stay, list-says, lookup-says, no-by, node-says, setup-says, union-says, yes-with}
+use Rattle.egraph.specs.ClassLists.{ClassesSays, ForOpSays, ListSays, TotalSays, list-held, total-held}
 use Rattle.egraph.specs.Listing.{NodeSays, NodesSays}
 use Rattle.egraph.specs.Reads.{CleanSays, CountSays, EmptySays, FindSays}
 use Rattle.egraph.specs.Rebuilds.{RebuildSays}
@@ -101,6 +103,25 @@ full-or h x = go (lt-or (h .ids) (h .n)) (lt-or (h .m) (h .places + length (x .k
     go (inl a) (inl b) = inl (inr b)
     go (inl a) (inr b) = inr (a, b)
 
+-- clean or not
+clean-or : (b : Bool) → (b ≡ false) ⊎ (b ≡ true)
+clean-or false = inl refl
+clean-or true = inr refl
+
+-- one list in one slice
+lists-one : (xs out : List ℕ) (r r′ : ListAnswer) (o o′ : List ℕ) → Lists xs out r o → Lists xs out r′ o′ → (list-says r ≡ list-says r′) × (o ≡ o′)
+lists-one xs out r r′ o o′ p q = go (lt-or (length out) (length xs))
+  where
+    go : (length out < length xs) ⊎ (length xs ≤ length out) → (list-says r ≡ list-says r′) × (o ≡ o′)
+    go (inl l) = let a = p .long l in let b = q .long l in (a .0 ∙ sym (b .0), a .1 ∙ sym (b .1))
+    go (inr l) =
+        let a = p .fits l in
+        let b = q .fits l in
+        let k = length xs in
+        let x : take k o ≡ take k o′ = a .1 ∙ sym (b .1) in
+        let y : drop k o ≡ drop k o′ = a .2 ∙ sym (b .2) in
+        (a .0 ∙ sym (b .0), sym (take-append-drop k o) ∙ ap (λ (l : List ℕ). l ++ drop k o) x ∙ ap (λ (l : List ℕ). take k o′ ++ l) y ∙ take-append-drop k o′)
+
 -- ---- setup: of any words
 
 pub setup-one : (ws : List ℕ) (n m : ℕ) (r r′ : SetupAnswer) (ws1 ws1′ : List ℕ) → SetupSays ws n m r ws1 → SetupSays ws n m r′ ws1′
@@ -132,17 +153,23 @@ module _ (ws : List ℕ) (g : Graph) (H : Holds ws g) where
   node-one i r r′ s t = open-both (s .says) (t .says) (λ s t. both-ends (or-lt i (head-of ws .ids)) s t (λ p q. p ∙ sym q) (λ p q. p .sound g H ∙ sym (q .sound g H)))
 
   pub nodes-one : (out : List ℕ) (r r′ : ListAnswer) (o o′ : List ℕ) → NodesSays ws out r o → NodesSays ws out r′ o′ → (list-says r ≡ list-says r′) × (o ≡ o′)
-  nodes-one out r r′ o o′ s t = open-both (s .says) (t .says) (λ p q. go (lt-or (length out) (length (nodes g))) (p .sound g H) (q .sound g H))
-    where
-      go : (length out < length (nodes g)) ⊎ (length (nodes g) ≤ length out) → Lists (nodes g) out r o → Lists (nodes g) out r′ o′ → (list-says r ≡ list-says r′) × (o ≡ o′)
-      go (inl l) p q = let a = p .long l in let b = q .long l in (a .0 ∙ sym (b .0), a .1 ∙ sym (b .1))
-      go (inr l) p q =
-          let a = p .fits l in
-          let b = q .fits l in
-          let k = length (nodes g) in
-          let x : take k o ≡ take k o′ = a .1 ∙ sym (b .1) in
-          let y : drop k o ≡ drop k o′ = a .2 ∙ sym (b .2) in
-          (a .0 ∙ sym (b .0), sym (take-append-drop k o) ∙ ap (λ (l : List ℕ). l ++ drop k o) x ∙ ap (λ (l : List ℕ). take k o′ ++ l) y ∙ take-append-drop k o′)
+  nodes-one out r r′ o o′ s t = open-both (s .says) (t .says) (λ p q. lists-one (nodes g) out r r′ o o′ (p .sound g H) (q .sound g H))
+
+  -- ---- the classes of a clean graph
+
+  pub total-one : (r r′ : CountAnswer) → TotalSays ws r → TotalSays ws r′ → count-says r ≡ count-says r′
+  total-one r r′ s t = both-ends (clean-or (g .clean)) (total-held ws g H r s) (total-held ws g H r′ t) (λ p q. p ∙ sym q) (λ p q. p ∙ sym q)
+
+  list-one : (list : Graph → List ℕ) (out : List ℕ) (r r′ : ListAnswer) (o o′ : List ℕ) → ListSays list ws out r o → ListSays list ws out r′ o′ → (list-says r ≡ list-says r′) × (o ≡ o′)
+  list-one list out r r′ o o′ s t =
+      both-ends (clean-or (g .clean)) (list-held list ws g H out r o s) (list-held list ws g H out r′ o′ t) (λ p q. (p .0 ∙ sym (q .0), p .1 ∙ sym (q .1)))
+      (λ p q. lists-one (list g) out r r′ o o′ p q)
+
+  pub for-op-one : (op : ℕ) (out : List ℕ) (r r′ : ListAnswer) (o o′ : List ℕ) → ForOpSays ws op out r o → ForOpSays ws op out r′ o′ → (list-says r ≡ list-says r′) × (o ≡ o′)
+  for-op-one op out r r′ o o′ s t = list-one (λ (k : Graph). classes-for-op k op) out r r′ o o′ s t
+
+  pub classes-one : (out : List ℕ) (r r′ : ListAnswer) (o o′ : List ℕ) → ClassesSays ws out r o → ClassesSays ws out r′ o′ → (list-says r ≡ list-says r′) × (o ≡ o′)
+  classes-one out r r′ o o′ s t = list-one classes out r r′ o o′ s t
 
   -- ---- a node in hand
 
