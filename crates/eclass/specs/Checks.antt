@@ -2,9 +2,9 @@
 -- lists meets only ids, whose rows are within bounds (`Unbroken`). On words that hold a clean graph neither refuses.
 -- Assumes nothing.
 use mathlib.Core.Bool.{Bool, false, true}
-use mathlib.Core.List.{List, [], _∷_}
+use mathlib.Core.List.{List}
 use mathlib.Core.Logic.{_⊎_, inl, inr}
-use mathlib.Core.Path.{_≡_, refl, sym}
+use mathlib.Core.Path.{_≡_, sym}
 use Prim.Native.Nat.{_+_, _-_, _<_, _≤_, ℕ}
 use native.Mathlib.Decide.{ℕ-discrete}
 use native.Mathlib.Omega.{arith}
@@ -13,7 +13,7 @@ use Rattle.lists.specs.Reads.{at}
 use Rattle.lists.specs.Tests.{Says, says-no, says-yes}
 use Rattle.steps.specs.Graph.{Graph}
 use Rattle.holds.specs.Holds.{HoldsAt}
-use Rattle.layout.specs.View.{View}
+use Rattle.layout.specs.View.{View, view}
 use Rattle.layout.specs.declared.Head.{Head}
 use Rattle.rows.specs.Promise.{Key}
 use Rattle.rows.specs.Read.{Sane, sane-test}
@@ -61,6 +61,13 @@ pub record Unbroken (ms rs : List ℕ) (n m N : ℕ) : Type 0 where
 -- an id that is met in a class that is fine
 pub fine-at : {ms rs : List ℕ} {n m N r x : ℕ} → Fine ms rs n m N r → Mem x (class-ids ms n r) → FineId rs n m N x
 fine-at {x = x} f k = let p = f .all x k in record { low = p .0; sane = p .1 }
+
+-- the same of words with the head h
+abbrev pub FineIn : Head → List ℕ → ℕ → Type 0
+FineIn h ws r = Fine (view (h .n) (h .m) ws .members) (view (h .n) (h .m) ws .rows) (h .n) (h .m) (h .ids) r
+
+abbrev pub UnbrokenIn : Head → List ℕ → Type 0
+UnbrokenIn h ws = Unbroken (view (h .n) (h .m) ws .members) (view (h .n) (h .m) ws .rows) (h .n) (h .m) (h .ids)
 
 pub unbroken : {h : Head} {u : ℕ} {v : View} {g : Graph} → HoldsAt h u v g → g .clean ≡ true → Unbroken (v .members) (v .rows) (h .n) (h .m) (h .ids)
 unbroken {h} H c = record { few = total-few H c; fine = λ r l. members-fine H r (omega (arith, H .range .ids-in)) }

@@ -2,9 +2,9 @@
 -- from the last to the first, since a list is read backwards. On words that hold a clean graph the list is the graph's.
 -- Assumes nothing.
 use mathlib.Core.Bool.{true}
-use mathlib.Core.List.{List, [], _++_, _∷_, append-assoc, map, map-append}
+use mathlib.Core.List.{List, [], _++_, _∷_, map, map-append}
 use mathlib.Core.Path.{_∙_, _≡_, ap, refl, sym}
-use Prim.Native.Nat.{_*_, _+_, _-_, _<_, _≤_, suc, ℕ}
+use Prim.Native.Nat.{_*_, _+_, _-_, _<_, _≤_, ℕ}
 use native.Mathlib.Decide.{decLt}
 use native.Mathlib.Numerals.{add-one}
 use native.Mathlib.Omega.{arith}
@@ -14,21 +14,20 @@ use Rattle.lists.specs.Members.{Mem}
 use Rattle.lists.specs.Reads.{at}
 use Rattle.lists.specs.Tests.{when, when-no, when-yes}
 use Rattle.language.specs.Struct.{nodeOf}
-use Rattle.language.specs.Term.{Term, places, spell, words}
-use Rattle.language.specs.declared.Node.{Node}
-use Rattle.steps.specs.Classes.{class-nodes, class-roots, class-words, classes}
+use Rattle.language.specs.Term.{places, spell, words}
+use Rattle.steps.specs.Classes.{class-roots, class-words, classes}
 use Rattle.steps.specs.Graph.{Graph}
 use Rattle.closure.specs.Listed.{roots-from}
 use Rattle.holds.specs.Holds.{HoldsAt}
-use Rattle.layout.specs.View.{View}
+use Rattle.layout.specs.View.{View, view}
 use Rattle.layout.specs.declared.Head.{Head}
 use Rattle.rows.specs.Promise.{Key}
 use Rattle.rows.specs.Read.{key-read}
 use Rattle.rows.specs.declared.Fetched.{Fetched}
-use Rattle.spelling.specs.Listed.{length-spell, spell-snoc}
+use Rattle.spelling.specs.Listed.{length-spell}
 use Rattle.spelling.specs.Puts.{Puts}
 use Rattle.eclass.specs.ClassHeld.{nodes-counted, nodes-read, roots-listed}
-use Rattle.eclass.specs.ClassWalk.{Walk, back, back-step, class-ids, class-read, len-of, walk-end, walk-more, walk-start}
+use Rattle.eclass.specs.ClassWalk.{Walk, back, back-step, class-ids, len-of, walk-end, walk-more, walk-start}
 use Rattle.eclass.specs.Pieces.{Wrote, flat-same, pieces, pieces-flat, sets-front, wrote, wrote-none}
 
 -- ---- the model
@@ -43,6 +42,13 @@ class-text ms rs n m r = r ∷ len-of ms n r ∷ spelled rs n m (class-ids ms n 
 
 unfoldable pub class-piece : List ℕ → List ℕ → ℕ → ℕ → ℕ → List ℕ
 class-piece ms rs n m r = when (decLt 0 (len-of ms n r)) (class-text ms rs n m r) []
+
+-- the same of words with the head h
+abbrev pub class-piece-in : Head → List ℕ → ℕ → List ℕ
+class-piece-in h ws = class-piece (view (h .n) (h .m) ws .members) (view (h .n) (h .m) ws .rows) (h .n) (h .m)
+
+abbrev pub classes-in : Head → List ℕ → List ℕ
+classes-in h ws = pieces (class-piece-in h ws) (h .ids)
 
 pub classes-are : {h : Head} {u : ℕ} {v : View} {g : Graph} → HoldsAt h u v g → g .clean ≡ true → pieces (class-piece (v .members) (v .rows) (h .n) (h .m)) (h .ids) ≡ classes g
 unfolding class-piece spelled
@@ -89,6 +95,9 @@ pub record Measuring (rs : List ℕ) (n m w : ℕ) (d : List ℕ) : Type 0 where
 pub record ClassLong (ms rs : List ℕ) (n m r w : ℕ) : Type 0 where
   pub exact : w ≡ length (spelled rs n m (class-ids ms n r))
   pub few : w ≤ 11 * len-of ms n r
+
+abbrev pub ClassLongIn : Head → List ℕ → ℕ → ℕ → Type 0
+ClassLongIn h ws r w = ClassLong (view (h .n) (h .m) ws .members) (view (h .n) (h .m) ws .rows) (h .n) (h .m) r w
 
 module _ (ms rs : List ℕ) (n m r : ℕ) where
   pub long-start : (k cur : ℕ) → k ≡ len-of ms n r → cur ≡ at ms r → Walk ms n r k cur (Measuring rs n m 0)

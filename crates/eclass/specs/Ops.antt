@@ -18,7 +18,7 @@ use Rattle.language.specs.Term.{Term}
 use Rattle.steps.specs.Classes.{classes-for-op}
 use Rattle.steps.specs.Graph.{Graph}
 use Rattle.holds.specs.Holds.{HoldsAt}
-use Rattle.layout.specs.View.{View}
+use Rattle.layout.specs.View.{View, view}
 use Rattle.layout.specs.declared.Head.{Head}
 use Rattle.rows.specs.Promise.{Key}
 use Rattle.rows.specs.Read.{key-read}
@@ -39,6 +39,16 @@ pub record HasOp (ms rs : List ℕ) (n m o r : ℕ) : Type 0 where
 
 unfoldable pub op-piece : List ℕ → List ℕ → ℕ → ℕ → ℕ → ℕ → List ℕ
 op-piece ms rs n m o r = when (any (λ (x : Term). ℕ-discrete (x .op) o) (class-read ms rs n m r)) (r ∷ []) []
+
+-- the same of words with the head h
+abbrev pub HasOpIn : Head → List ℕ → ℕ → ℕ → Type 0
+HasOpIn h ws o r = HasOp (view (h .n) (h .m) ws .members) (view (h .n) (h .m) ws .rows) (h .n) (h .m) o r
+
+abbrev pub op-piece-in : Head → List ℕ → ℕ → ℕ → List ℕ
+op-piece-in h ws o = op-piece (view (h .n) (h .m) ws .members) (view (h .n) (h .m) ws .rows) (h .n) (h .m) o
+
+abbrev pub ops-in : Head → List ℕ → ℕ → List ℕ
+ops-in h ws o = pieces (op-piece-in h ws o) (h .ids)
 
 pub ops-are : {h : Head} {u : ℕ} {v : View} {g : Graph} → HoldsAt h u v g → g .clean ≡ true → (o : ℕ)
     → pieces (op-piece (v .members) (v .rows) (h .n) (h .m) o) (h .ids) ≡ classes-for-op g o

@@ -7,14 +7,12 @@
 //
 // A list of members is read backwards from its last id. On any words each walk ends: `check` says whether all of them together are no longer than there are ids and
 // meet only ids, and the functions after it ask for that. What each function promises: specs/.
-ghost use mathlib.Core.Path.{_≡_};
-ghost use Prim.Native.Nat.{_<_, _≤_, _^_};
+ghost use Prim.Native.Nat.{_<_};
 ghost use lib.ListN.{length};
 ghost use Rattle.lists.specs.Tests.{Says};
 ghost use Rattle.layout.specs.Head.{HeadOk};
-ghost use Rattle.layout.specs.View.{View, view};
-ghost use Rattle.eclass.specs.ClassWalk.{Fine};
-ghost use Rattle.eclass.specs.Checks.{FineId, Totals, Unbroken};
+ghost use Rattle.layout.specs.View.{view};
+ghost use Rattle.eclass.specs.Checks.{FineId, FineIn, Totals, UnbrokenIn};
 use language::Id;
 use layout::Head;
 
@@ -64,7 +62,7 @@ fn fine_id(ws: &[u32], h: Head, id: usize) -> bool
 fn check_class(ws: &[u32], h: Head, r: usize) -> bool
     requires { ⌜ HeadOk (length (now ws)) h ⌝ }
     requires { ⌜ r < h .ids ⌝ }
-    ensures { λ b. ⌜ Says b (Fine (view (h .n) (h .m) (now (ws .entry)) .members) (view (h .n) (h .m) (now (ws .entry)) .rows) (h .n) (h .m) (h .ids) r) ⌝ }
+    ensures { λ b. ⌜ Says b (FineIn h (now (ws .entry)) r) ⌝ }
 {
     let mut left = parts::on_members::len(ws, h, r);
     let mut id = parts::on_members::last(ws, h, r);
@@ -81,7 +79,7 @@ fn check_class(ws: &[u32], h: Head, r: usize) -> bool
 // Whether all walks are unbroken, and together no longer than there are ids.
 pub fn check(ws: &[u32], h: Head) -> bool
     requires { ⌜ HeadOk (length (now ws)) h ⌝ }
-    ensures { λ b. ⌜ Says b (Unbroken (view (h .n) (h .m) (now (ws .entry)) .members) (view (h .n) (h .m) (now (ws .entry)) .rows) (h .n) (h .m) (h .ids)) ⌝ }
+    ensures { λ b. ⌜ Says b (UnbrokenIn h (now (ws .entry))) ⌝ }
 {
     let Total::TotalIs(t) = count_nodes(ws, h) else {
         return false;

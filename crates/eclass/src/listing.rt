@@ -2,14 +2,13 @@
 ghost use mathlib.Core.Path.{_≡_};
 ghost use Prim.Native.Nat.{_*_, _+_, _<_, _≤_, _^_};
 ghost use lib.ListN.{length};
-ghost use Rattle.language.specs.Term.{Term, words};
+ghost use Rattle.language.specs.Term.{words};
 ghost use Rattle.layout.specs.Head.{HeadOk};
-ghost use Rattle.layout.specs.View.{View, view};
+ghost use Rattle.layout.specs.View.{view};
 ghost use Rattle.rows.specs.Read.{key-read};
-ghost use Rattle.eclass.specs.Checks.{Unbroken};
-ghost use Rattle.eclass.specs.ClassWalk.{Fine};
-ghost use Rattle.eclass.specs.Lists.{Before, ClassLong, IdWords, Placed, class-piece};
-ghost use Rattle.eclass.specs.Pieces.{Wrote, pieces};
+ghost use Rattle.eclass.specs.Checks.{FineIn, UnbrokenIn};
+ghost use Rattle.eclass.specs.Lists.{Before, ClassLongIn, IdWords, Placed, class-piece-in, classes-in};
+ghost use Rattle.eclass.specs.Pieces.{Wrote};
 use language::Id;
 use layout::Head;
 
@@ -27,8 +26,8 @@ fn id_words(ws: &[u32], h: Head, id: usize) -> usize
 fn class_words(ws: &[u32], h: Head, r: usize) -> usize
     requires { ⌜ HeadOk (length (now ws)) h ⌝ }
     requires { ⌜ r < h .ids ⌝ }
-    requires { ⌜ Fine (view (h .n) (h .m) (now ws) .members) (view (h .n) (h .m) (now ws) .rows) (h .n) (h .m) (h .ids) r ⌝ }
-    ensures { λ w. ⌜ ClassLong (view (h .n) (h .m) (now (ws .entry)) .members) (view (h .n) (h .m) (now (ws .entry)) .rows) (h .n) (h .m) r w × (w ≤ 11 * 2 ^ 32) ⌝ }
+    requires { ⌜ FineIn h (now ws) r ⌝ }
+    ensures { λ w. ⌜ ClassLongIn h (now (ws .entry)) r w × (w ≤ 11 * 2 ^ 32) ⌝ }
 {
     let mut left = parts::on_members::len(ws, h, r);
     let mut id = parts::on_members::last(ws, h, r);
@@ -45,8 +44,8 @@ fn class_words(ws: &[u32], h: Head, r: usize) -> usize
 fn piece_words(ws: &[u32], h: Head, r: usize) -> usize
     requires { ⌜ HeadOk (length (now ws)) h ⌝ }
     requires { ⌜ r < h .ids ⌝ }
-    requires { ⌜ Fine (view (h .n) (h .m) (now ws) .members) (view (h .n) (h .m) (now ws) .rows) (h .n) (h .m) (h .ids) r ⌝ }
-    ensures { λ k. ⌜ (k ≡ length (class-piece (view (h .n) (h .m) (now (ws .entry)) .members) (view (h .n) (h .m) (now (ws .entry)) .rows) (h .n) (h .m) r)) × (k ≤ 2 + 11 * 2 ^ 32) ⌝ }
+    requires { ⌜ FineIn h (now ws) r ⌝ }
+    ensures { λ k. ⌜ (k ≡ length (class-piece-in h (now (ws .entry)) r)) × (k ≤ 2 + 11 * 2 ^ 32) ⌝ }
 {
     let k = parts::on_members::len(ws, h, r);
     if k == 0 {
@@ -58,8 +57,8 @@ fn piece_words(ws: &[u32], h: Head, r: usize) -> usize
 // How many words all classes take.
 pub fn measure_classes(ws: &[u32], h: Head) -> usize
     requires { ⌜ HeadOk (length (now ws)) h ⌝ }
-    requires { ⌜ Unbroken (view (h .n) (h .m) (now ws) .members) (view (h .n) (h .m) (now ws) .rows) (h .n) (h .m) (h .ids) ⌝ }
-    ensures { λ k. ⌜ k ≡ length (pieces (class-piece (view (h .n) (h .m) (now (ws .entry)) .members) (view (h .n) (h .m) (now (ws .entry)) .rows) (h .n) (h .m)) (h .ids)) ⌝ }
+    requires { ⌜ UnbrokenIn h (now ws) ⌝ }
+    ensures { λ k. ⌜ k ≡ length (classes-in h (now (ws .entry))) ⌝ }
 {
     let ids = h.ids;
     let mut total: usize = 0;
@@ -89,8 +88,8 @@ fn put_before(ws: &[u32], h: Head, out: &mut [u32], end: usize, id: usize) -> us
 fn put_members(ws: &[u32], h: Head, out: &mut [u32], place: usize, r: usize, w: usize)
     requires { ⌜ HeadOk (length (now ws)) h ⌝ }
     requires { ⌜ r < h .ids ⌝ }
-    requires { ⌜ Fine (view (h .n) (h .m) (now ws) .members) (view (h .n) (h .m) (now ws) .rows) (h .n) (h .m) (h .ids) r ⌝ }
-    requires { ⌜ ClassLong (view (h .n) (h .m) (now ws) .members) (view (h .n) (h .m) (now ws) .rows) (h .n) (h .m) r w ⌝ }
+    requires { ⌜ FineIn h (now ws) r ⌝ }
+    requires { ⌜ ClassLongIn h (now ws) r w ⌝ }
     requires { ⌜ place + w ≤ length (now out) ⌝ }
     ensures { λ _. ⌜ Placed (view (h .n) (h .m) (now (ws .entry)) .members) (view (h .n) (h .m) (now (ws .entry)) .rows) (h .n) (h .m) r (now (out .entry)) place (now (out .exit)) ⌝ }
 {
@@ -108,9 +107,9 @@ fn put_members(ws: &[u32], h: Head, out: &mut [u32], place: usize, r: usize, w: 
 fn put_class(ws: &[u32], h: Head, out: &mut [u32], place: usize, r: usize) -> usize
     requires { ⌜ HeadOk (length (now ws)) h ⌝ }
     requires { ⌜ r < h .ids ⌝ }
-    requires { ⌜ Fine (view (h .n) (h .m) (now ws) .members) (view (h .n) (h .m) (now ws) .rows) (h .n) (h .m) (h .ids) r ⌝ }
-    requires { ⌜ place + length (class-piece (view (h .n) (h .m) (now ws) .members) (view (h .n) (h .m) (now ws) .rows) (h .n) (h .m) r) ≤ length (now out) ⌝ }
-    ensures { λ p. ⌜ Wrote (now (out .entry)) place (class-piece (view (h .n) (h .m) (now (ws .entry)) .members) (view (h .n) (h .m) (now (ws .entry)) .rows) (h .n) (h .m) r) p (now (out .exit)) ⌝ }
+    requires { ⌜ FineIn h (now ws) r ⌝ }
+    requires { ⌜ place + length (class-piece-in h (now ws) r) ≤ length (now out) ⌝ }
+    ensures { λ p. ⌜ Wrote (now (out .entry)) place (class-piece-in h (now (ws .entry)) r) p (now (out .exit)) ⌝ }
 {
     let k = parts::on_members::len(ws, h, r);
     if k == 0 {
@@ -126,9 +125,9 @@ fn put_class(ws: &[u32], h: Head, out: &mut [u32], place: usize, r: usize) -> us
 // All classes, in ascending root id, from the start of a slice that has room for them; the place behind them.
 pub fn put_classes(ws: &[u32], h: Head, out: &mut [u32]) -> usize
     requires { ⌜ HeadOk (length (now ws)) h ⌝ }
-    requires { ⌜ Unbroken (view (h .n) (h .m) (now ws) .members) (view (h .n) (h .m) (now ws) .rows) (h .n) (h .m) (h .ids) ⌝ }
-    requires { ⌜ length (pieces (class-piece (view (h .n) (h .m) (now ws) .members) (view (h .n) (h .m) (now ws) .rows) (h .n) (h .m)) (h .ids)) ≤ length (now out) ⌝ }
-    ensures { λ p. ⌜ Wrote (now (out .entry)) 0 (pieces (class-piece (view (h .n) (h .m) (now (ws .entry)) .members) (view (h .n) (h .m) (now (ws .entry)) .rows) (h .n) (h .m)) (h .ids)) p (now (out .exit)) ⌝ }
+    requires { ⌜ UnbrokenIn h (now ws) ⌝ }
+    requires { ⌜ length (classes-in h (now ws)) ≤ length (now out) ⌝ }
+    ensures { λ p. ⌜ Wrote (now (out .entry)) 0 (classes-in h (now (ws .entry))) p (now (out .exit)) ⌝ }
 {
     let ids = h.ids;
     let mut at: usize = 0;

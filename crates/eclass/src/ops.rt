@@ -4,11 +4,10 @@ ghost use Prim.Native.Nat.{_+_, _<_, _≤_};
 ghost use lib.ListN.{length};
 ghost use Rattle.lists.specs.Tests.{Says};
 ghost use Rattle.layout.specs.Head.{HeadOk};
-ghost use Rattle.layout.specs.View.{View, view};
-ghost use Rattle.eclass.specs.Checks.{Unbroken};
-ghost use Rattle.eclass.specs.ClassWalk.{Fine};
-ghost use Rattle.eclass.specs.Ops.{HasOp, OpIs, op-piece};
-ghost use Rattle.eclass.specs.Pieces.{Wrote, pieces};
+ghost use Rattle.layout.specs.View.{view};
+ghost use Rattle.eclass.specs.Checks.{FineIn, UnbrokenIn};
+ghost use Rattle.eclass.specs.Ops.{HasOpIn, OpIs, op-piece-in, ops-in};
+ghost use Rattle.eclass.specs.Pieces.{Wrote};
 use language::Id;
 use language::Op;
 use layout::Head;
@@ -31,8 +30,8 @@ fn op_is(ws: &[u32], h: Head, id: usize, op: Op) -> bool
 fn has_op(ws: &[u32], h: Head, r: usize, op: Op) -> bool
     requires { ⌜ HeadOk (length (now ws)) h ⌝ }
     requires { ⌜ r < h .ids ⌝ }
-    requires { ⌜ Fine (view (h .n) (h .m) (now ws) .members) (view (h .n) (h .m) (now ws) .rows) (h .n) (h .m) (h .ids) r ⌝ }
-    ensures { λ b. ⌜ Says b (HasOp (view (h .n) (h .m) (now (ws .entry)) .members) (view (h .n) (h .m) (now (ws .entry)) .rows) (h .n) (h .m) (op .0) r) ⌝ }
+    requires { ⌜ FineIn h (now ws) r ⌝ }
+    ensures { λ b. ⌜ Says b (HasOpIn h (now (ws .entry)) (op .0) r) ⌝ }
 {
     let mut left = parts::on_members::len(ws, h, r);
     let mut id = parts::on_members::last(ws, h, r);
@@ -50,8 +49,8 @@ fn has_op(ws: &[u32], h: Head, r: usize, op: Op) -> bool
 fn op_words(ws: &[u32], h: Head, r: usize, op: Op) -> usize
     requires { ⌜ HeadOk (length (now ws)) h ⌝ }
     requires { ⌜ r < h .ids ⌝ }
-    requires { ⌜ Fine (view (h .n) (h .m) (now ws) .members) (view (h .n) (h .m) (now ws) .rows) (h .n) (h .m) (h .ids) r ⌝ }
-    ensures { λ k. ⌜ (k ≡ length (op-piece (view (h .n) (h .m) (now (ws .entry)) .members) (view (h .n) (h .m) (now (ws .entry)) .rows) (h .n) (h .m) (op .0) r)) × (k ≤ 1) ⌝ }
+    requires { ⌜ FineIn h (now ws) r ⌝ }
+    ensures { λ k. ⌜ (k ≡ length (op-piece-in h (now (ws .entry)) (op .0) r)) × (k ≤ 1) ⌝ }
 {
     if has_op(ws, h, r, op) {
         return 1;
@@ -62,8 +61,8 @@ fn op_words(ws: &[u32], h: Head, r: usize, op: Op) -> usize
 // How many classes have it.
 pub fn measure_ops(ws: &[u32], h: Head, op: Op) -> usize
     requires { ⌜ HeadOk (length (now ws)) h ⌝ }
-    requires { ⌜ Unbroken (view (h .n) (h .m) (now ws) .members) (view (h .n) (h .m) (now ws) .rows) (h .n) (h .m) (h .ids) ⌝ }
-    ensures { λ k. ⌜ k ≡ length (pieces (op-piece (view (h .n) (h .m) (now (ws .entry)) .members) (view (h .n) (h .m) (now (ws .entry)) .rows) (h .n) (h .m) (op .0)) (h .ids)) ⌝ }
+    requires { ⌜ UnbrokenIn h (now ws) ⌝ }
+    ensures { λ k. ⌜ k ≡ length (ops-in h (now (ws .entry)) (op .0)) ⌝ }
 {
     let ids = h.ids;
     let mut count: usize = 0;
@@ -79,9 +78,9 @@ pub fn measure_ops(ws: &[u32], h: Head, op: Op) -> usize
 fn put_op(ws: &[u32], h: Head, op: Op, out: &mut [u32], place: usize, r: usize) -> usize
     requires { ⌜ HeadOk (length (now ws)) h ⌝ }
     requires { ⌜ r < h .ids ⌝ }
-    requires { ⌜ Fine (view (h .n) (h .m) (now ws) .members) (view (h .n) (h .m) (now ws) .rows) (h .n) (h .m) (h .ids) r ⌝ }
-    requires { ⌜ place + length (op-piece (view (h .n) (h .m) (now ws) .members) (view (h .n) (h .m) (now ws) .rows) (h .n) (h .m) (op .0) r) ≤ length (now out) ⌝ }
-    ensures { λ p. ⌜ Wrote (now (out .entry)) place (op-piece (view (h .n) (h .m) (now (ws .entry)) .members) (view (h .n) (h .m) (now (ws .entry)) .rows) (h .n) (h .m) (op .0) r) p (now (out .exit)) ⌝ }
+    requires { ⌜ FineIn h (now ws) r ⌝ }
+    requires { ⌜ place + length (op-piece-in h (now ws) (op .0) r) ≤ length (now out) ⌝ }
+    ensures { λ p. ⌜ Wrote (now (out .entry)) place (op-piece-in h (now (ws .entry)) (op .0) r) p (now (out .exit)) ⌝ }
 {
     if has_op(ws, h, r, op) {
         out[place] = r as u32;
@@ -93,9 +92,9 @@ fn put_op(ws: &[u32], h: Head, op: Op, out: &mut [u32], place: usize, r: usize) 
 // The roots of the classes that have it, ascending, from the start of a slice that has room for them; the place behind them.
 pub fn put_ops(ws: &[u32], h: Head, op: Op, out: &mut [u32]) -> usize
     requires { ⌜ HeadOk (length (now ws)) h ⌝ }
-    requires { ⌜ Unbroken (view (h .n) (h .m) (now ws) .members) (view (h .n) (h .m) (now ws) .rows) (h .n) (h .m) (h .ids) ⌝ }
-    requires { ⌜ length (pieces (op-piece (view (h .n) (h .m) (now ws) .members) (view (h .n) (h .m) (now ws) .rows) (h .n) (h .m) (op .0)) (h .ids)) ≤ length (now out) ⌝ }
-    ensures { λ p. ⌜ Wrote (now (out .entry)) 0 (pieces (op-piece (view (h .n) (h .m) (now (ws .entry)) .members) (view (h .n) (h .m) (now (ws .entry)) .rows) (h .n) (h .m) (op .0)) (h .ids)) p (now (out .exit)) ⌝ }
+    requires { ⌜ UnbrokenIn h (now ws) ⌝ }
+    requires { ⌜ length (ops-in h (now ws) (op .0)) ≤ length (now out) ⌝ }
+    ensures { λ p. ⌜ Wrote (now (out .entry)) 0 (ops-in h (now (ws .entry)) (op .0)) p (now (out .exit)) ⌝ }
 {
     let ids = h.ids;
     let mut at: usize = 0;

@@ -3,7 +3,7 @@
 -- Assumes nothing.
 use mathlib.Core.Bool.{Bool, false, true}
 use mathlib.Core.List.{List, [], _∷_}
-use mathlib.Core.Logic.{_⊎_, inl, inr}
+use mathlib.Core.Logic.{inl, inr}
 use mathlib.Core.Path.{_∙_, _≡_, ap, refl, sym}
 use Prim.Native.Nat.{_<_, _≤_, ℕ}
 use native.Mathlib.Omega.{arith}
@@ -11,14 +11,14 @@ use lib.ListN.{length}
 use Rattle.lists.specs.Tests.{Says}
 use Rattle.steps.specs.Classes.{classes, classes-for-op, total-number-of-nodes}
 use Rattle.steps.specs.Graph.{Graph}
-use Rattle.eclass.specs.Checks.{Totals, Unbroken, unbroken}
+use Rattle.eclass.specs.Checks.{Totals, UnbrokenIn, unbroken}
 use Rattle.eclass.specs.ClassHeld.{total-few, total-is}
-use Rattle.eclass.specs.Lists.{class-piece, classes-are}
-use Rattle.eclass.specs.Ops.{op-piece, ops-are}
-use Rattle.eclass.specs.Pieces.{Wrote, pieces, wrote-back, wrote-front}
+use Rattle.eclass.specs.Lists.{classes-are, classes-in}
+use Rattle.eclass.specs.Ops.{ops-are, ops-in}
+use Rattle.eclass.specs.Pieces.{Wrote, wrote-back, wrote-front}
 use Rattle.eclass.specs.declared.Total.{Total}
 use Rattle.eclass.specs.declared.Total.the-variants.{TotalBroken, TotalIs}
-use Rattle.egraph.specs.Answers.{Answer, Else, ListOpen, Lists, Unless-3, count-says, head-of, list-says, never, nine, no-by, opened, pass, shut, stop, yes-with}
+use Rattle.egraph.specs.Answers.{Answer, Else, ListOpen, Lists, Unless-3, Unless-7, cleaned, count-says, held-clean, list-says, never, nine, no-by, opened, shut, unclean, yes-with}
 use Rattle.egraph.specs.Listing.{words≢not}
 use Rattle.egraph.specs.declared.CountAnswer.{CountAnswer}
 use Rattle.egraph.specs.declared.CountAnswer.the-variants.{CountIs, CountNot}
@@ -26,31 +26,12 @@ use Rattle.egraph.specs.declared.ListAnswer.{ListAnswer}
 use Rattle.egraph.specs.declared.ListAnswer.the-variants.{ListNot, ListWords}
 use Rattle.egraph.specs.declared.Refusal.the-variants.{BadHead, BrokenWords, NotRebuilt, TooLong}
 use Rattle.holds.specs.Holds.{Holds}
-use Rattle.holds.specs.HoldsLaws.{false≢true, holds-in}
+use Rattle.holds.specs.HoldsLaws.{holds-in}
 use Rattle.layout.specs.Head.{HeadIs, HeadSays}
 use Rattle.layout.specs.View.{hd, view}
 use Rattle.layout.specs.declared.Head.{Head}
 use Rattle.layout.specs.declared.HeadRead.{HeadRead}
 use Rattle.layout.specs.declared.HeadRead.the-variants.{HeadBad, HeadGood}
-
--- ---- 7: the graph is not clean, as its head says
-
-abbrev pub Unless-7 : List ℕ → Type 0 → Type 0 → Type 0
-Unless-7 ws No Next = Else (head-of ws .clean ≡ false) No (head-of ws .clean ≡ true) Next
-
--- what the head says is what the graph says
-pub held-clean : {ws : List ℕ} {g : Graph} → Holds ws g → head-of ws .clean ≡ g .clean
-held-clean H = H .at-rest .clean-is
-
-module _ (ws : List ℕ) (h : Head) (q : HeadIs (length ws) (hd ws) h) where
-  clean-of : head-of ws .clean ≡ h .clean
-  clean-of = sym (ap (λ (s : Head). s .clean) (q .is))
-
-  pub unclean : {N X : Type 0} → h .clean ≡ false → N → Unless-7 ws N X
-  unclean e n = stop (clean-of ∙ e) (λ a b. false≢true (sym a ∙ b)) n
-
-  pub cleaned : {N X : Type 0} → h .clean ≡ true → X → Unless-7 ws N X
-  cleaned e x = pass (clean-of ∙ e) (λ a b. false≢true (sym a ∙ b)) x
 
 -- ---- how many nodes
 
@@ -129,8 +110,7 @@ module _ (list : Graph → List ℕ) (ws out : List ℕ) (r : HeadRead) (s : Hea
     list-opened f a out′ o = record { inside = o .inside; says = opened ws r s h e (λ q. cleaned ws h q f o) }
 
 module _ (list : Graph → List ℕ) (ws : List ℕ) (h : Head) (q : HeadIs (length ws) (hd ws) h) (c : h .clean ≡ true) (out : List ℕ) where
-  pub list-broken : (b : Bool) → Says b (Unbroken (view (h .n) (h .m) ws .members) (view (h .n) (h .m) ws .rows) (h .n) (h .m) (h .ids)) → b ≡ false
-      → ListOpen list ws out (ListNot BrokenWords) out
+  pub list-broken : (b : Bool) → Says b (UnbrokenIn h ws) → b ≡ false → ListOpen list ws out (ListNot BrokenWords) out
   list-broken b s e = record {
     inside = λ k p. absurd (words≢not k BrokenWords (sym p));
     size = refl;
@@ -168,10 +148,10 @@ module _ (list : Graph → List ℕ) (ws : List ℕ) (h : Head) (q : HeadIs (len
 
 -- what the words say of the classes with an operator
 pub its-ops : (ws : List ℕ) (h : Head) → HeadIs (length ws) (hd ws) h → h .clean ≡ true → (o : ℕ) (g : Graph) → Holds ws g
-    → pieces (op-piece (view (h .n) (h .m) ws .members) (view (h .n) (h .m) ws .rows) (h .n) (h .m) o) (h .ids) ≡ classes-for-op g o
+    → ops-in h ws o ≡ classes-for-op g o
 its-ops ws h q c o g H = ops-are (holds-in ws h g q H) (its-clean ws h q c g H) o
 
 -- and of all classes
 pub its-classes : (ws : List ℕ) (h : Head) → HeadIs (length ws) (hd ws) h → h .clean ≡ true → (g : Graph) → Holds ws g
-    → pieces (class-piece (view (h .n) (h .m) ws .members) (view (h .n) (h .m) ws .rows) (h .n) (h .m)) (h .ids) ≡ classes g
+    → classes-in h ws ≡ classes g
 its-classes ws h q c g H = classes-are (holds-in ws h g q H) (its-clean ws h q c g H)

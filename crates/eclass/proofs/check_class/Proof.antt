@@ -1,7 +1,5 @@
 use borrow.Author.Tests.{not-false, not-true}
-use mathlib.Core.Path.{_≡_}
 use native.Mathlib.Omega.{arith}
-use borrow.Author.Needs.{needs}
 use Rattle.layout.specs.Head.{ok-fits}
 use Rattle.layout.specs.View.{view}
 use Rattle.eclass.specs.ClassWalk.{Walk}

@@ -1,5 +1,4 @@
 use native.Mathlib.Omega.{arith}
-use Rattle.lists.specs.Tests.{says-yes}
 use Rattle.eclass.specs.Checks.{id-broken, id-fine, id-off}
 use borrow.Author.Needs.{needs}
 use Rattle.eclass.proofs.fine_id.Statement.{statement}

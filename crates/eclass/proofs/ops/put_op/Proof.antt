@@ -1,4 +1,3 @@
-use native.Mathlib.Omega.{arith}
 use mathlib.Core.Path.{refl}
 use Rattle.eclass.specs.Ops.{op-put, op-room, op-skip}
 use borrow.Author.Needs.{needs}

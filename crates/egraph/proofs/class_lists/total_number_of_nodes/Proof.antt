@@ -1,7 +1,6 @@
 use mathlib.Core.Path.{refl}
 use Rattle.layout.specs.Head.{head-is}
-use Rattle.egraph.specs.Answers.{opened, shut}
-use Rattle.egraph.specs.ClassLists.{cleaned, unclean}
+use Rattle.egraph.specs.Answers.{cleaned, opened, shut, unclean}
 use borrow.Author.Needs.{needs}
 use Rattle.egraph.proofs.class_lists.total_number_of_nodes.Statement.{statement}
 use Rattle.egraph.proofs.class_lists.total_number_of_nodes.Tie as tie
