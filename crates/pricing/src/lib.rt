@@ -1,0 +1,126 @@
+// The prices of a graph's classes (document 01, "The price of a form"), worked out in the scratch part of the words. The words are a clean graph's, with the
+// head h read before (layout has their table); only the scratch part is written:
+//
+//   words of scratch   what
+//   2c, 2c + 1         the price of class c, low half and high half
+//   2n + c             its mark: 0 where class c has no price yet, else 1 and the id whose key is the node that earned it
+//   3n to 6n - 1       not used here
+//
+// Of the graph are read, through the promises of `parts`: the ids of a class's nodes, from the last one back, and the key of each. The lists of ids that are no roots
+// are empty, so that a pass runs over all ids.
+ghost use mathlib.Core.Path.{_≡_};
+ghost use Prim.Native.Nat.{_+_, _<_, _≤_, _^_, min};
+ghost use lib.ListN.{length};
+ghost use Rattle.language.specs.Term.{places};
+ghost use Rattle.language.specs.Struct.{nodeOf};
+ghost use Rattle.layout.specs.Cut.{scratch};
+ghost use Rattle.layout.specs.Head.{HeadOk};
+ghost use Rattle.layout.specs.Lent.{Lent};
+ghost use Rattle.layout.specs.View.{View, view};
+ghost use Rattle.price.specs.Size.{cap};
+ghost use Rattle.pricing.specs.Entries.{EntryAt, Keeps};
+ghost use Rattle.pricing.specs.Node.{CostsNode};
+use language::Id;
+use language::Node;
+use layout::Head;
+
+// The greatest price.
+const CAP: u64 = 18446744073709551615;
+
+// Half of a price is one word.
+const WORD: u64 = 4294967296;
+
+// A price and the node that earned it: `mark` is 0 for none, else 1 and the id whose key is the node.
+pub struct Entry {
+    pub mark: usize,
+    pub price: u64,
+}
+
+// The price of a node, or none if a child has none; broken are words that no calls could have produced.
+pub enum NodeCost {
+    NodeCostIs(u64),
+    NodeCostNone,
+    NodeCostBroken,
+}
+
+pub enum Chosen {
+    ChosenIs(Entry),
+    ChosenBroken,
+}
+
+// How many entries were taken.
+pub enum Taken {
+    TakenIs(usize),
+    TakenBroken,
+}
+
+fn wide(x: u32) -> usize
+    ensures { λ r. ⌜ (r ≡ x) × (r < 2 ^ 32) ⌝ }
+{
+    x as usize
+}
+
+// The sum, or the greatest price.
+fn add(a: u64, b: u64) -> u64
+    ensures { λ r. ⌜ r ≡ min (a + b) cap ⌝ }
+{
+    if CAP - a < b {
+        return CAP;
+    }
+    a + b
+}
+
+// ---- entries in the scratch part
+
+// The entry of class c.
+pub fn get_entry(ws: &[u32], h: Head, c: usize) -> Entry
+    requires { ⌜ HeadOk (length (now ws)) h ⌝ }
+    requires { ⌜ c < h .n ⌝ }
+    ensures { λ r. ⌜ EntryAt (h .n) (view (h .n) (h .m) (now (ws .entry)) .scratch) c r ⌝ }
+{
+    let n = h.n;
+    let mark = layout::scratch(ws, h, 2 * n + c);
+    let low = layout::scratch(ws, h, 2 * c);
+    let high = layout::scratch(ws, h, 2 * c + 1);
+    let price = low as u64 + high as u64 * WORD;
+    Entry { mark, price }
+}
+
+fn set_entry(ws: &mut [u32], h: Head, c: usize, e: Entry)
+    requires { ⌜ HeadOk (length (now ws)) h ⌝ }
+    requires { ⌜ (c < h .n) × (e .mark < 2 ^ 32) ⌝ }
+    ensures { λ _. ⌜ Lent scratch (h .n) (h .m) (Keeps (h .n) c e) (now (ws .entry)) (now (ws .exit)) ⌝ }
+{
+    let n = h.n;
+    let low = (e.price % WORD) as usize;
+    let high = (e.price / WORD) as usize;
+    layout::set_scratch(ws, h, 2 * c, low);
+    layout::set_scratch(ws, h, 2 * c + 1, high);
+    layout::set_scratch(ws, h, 2 * n + c, e.mark);
+}
+
+// ---- the price of a node
+
+// 1 and the prices of the children's classes, added left to right.
+fn node_total_cost(ws: &[u32], h: Head, node: Node) -> NodeCost
+    requires { ⌜ HeadOk (length (now ws)) h ⌝ }
+    requires { ⌜ node .count ≤ places ⌝ }
+    ensures { λ r. ⌜ CostsNode (h .n) (h .ids) (view (h .n) (h .m) (now (ws .entry)) .scratch) (nodeOf node) r ⌝ }
+{
+    let n = wide(node.count);
+    let mut sum: u64 = 1;
+    let mut i: usize = 0;
+    while i < n {
+        let c = wide(node.child(i).0);
+        if h.ids <= c {
+            return NodeCost::NodeCostBroken;
+        }
+        let e = get_entry(ws, h, c);
+        if e.mark == 0 {
+            return NodeCost::NodeCostNone;
+        }
+        sum = add(sum, e.price);
+        i += 1;
+    }
+    NodeCost::NodeCostIs(sum)
+}
