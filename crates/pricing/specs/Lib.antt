@@ -1,2 +1,4 @@
 pub mod Entries
 pub mod Node
+pub mod Classed
+pub mod Best

@@ -20,6 +20,7 @@ ghost use Rattle.layout.specs.View.{View, view};
 ghost use Rattle.price.specs.Size.{cap};
 ghost use Rattle.pricing.specs.Entries.{EntryAt, Keeps};
 ghost use Rattle.pricing.specs.Node.{CostsNode};
+ghost use Rattle.pricing.specs.Best.{BestOf, Betters, Chooses};
 use language::Id;
 use language::Node;
 use layout::Head;
@@ -123,4 +124,71 @@ fn node_total_cost(ws: &[u32], h: Head, node: Node) -> NodeCost
         i += 1;
     }
     NodeCost::NodeCostIs(sum)
+}
+
+// ---- the best node of a class
+
+// The node of an id at a price, or the best of the nodes behind it in node order: at equal prices the one in front.
+fn choose(best: Entry, price: u64, id: usize) -> Entry
+    requires { ⌜ id < 65536 ⌝ }
+    ensures { λ r. ⌜ Chooses best price id r ⌝ }
+{
+    let mark = id + 1;
+    if best.mark == 0 {
+        return Entry { mark, price };
+    }
+    if price <= best.price {
+        return Entry { mark, price };
+    }
+    best
+}
+
+// The node of an id is looked at, where `best` is the best of those behind it.
+fn better(ws: &[u32], h: Head, id: usize, best: Entry) -> Chosen
+    requires { ⌜ HeadOk (length (now ws)) h ⌝ }
+    requires { ⌜ (id < h .n) × (best .mark ≤ h .n) ⌝ }
+    ensures { λ r. ⌜ Betters h id best (view (h .n) (h .m) (now (ws .entry))) r ⌝ }
+{
+    let got = parts::on_rows::key(ws, h, Id(id as u32));
+    let out = got.out;
+    let node = got.node;
+    let rows::Fetch::FetchDone = out else {
+        return Chosen::ChosenBroken;
+    };
+    match node_total_cost(ws, h, node) {
+        NodeCost::NodeCostBroken => Chosen::ChosenBroken,
+        NodeCost::NodeCostNone => Chosen::ChosenIs(best),
+        NodeCost::NodeCostIs(p) => {
+            let e = choose(best, p, id);
+            Chosen::ChosenIs(e)
+        }
+    }
+}
+
+// The first node in node order with the least price, of the nodes of class r: the walk goes back from the last.
+fn class_best(ws: &[u32], h: Head, r: usize) -> Chosen
+    requires { ⌜ HeadOk (length (now ws)) h ⌝ }
+    requires { ⌜ r < h .n ⌝ }
+    ensures { λ o. ⌜ BestOf h r (view (h .n) (h .m) (now (ws .entry))) o ⌝ }
+{
+    let n = h.n;
+    let k = parts::on_members::len(ws, h, r);
+    if n < k {
+        return Chosen::ChosenBroken;
+    }
+    let mut best = Entry { mark: 0, price: 0 };
+    let mut id = parts::on_members::last(ws, h, r);
+    let mut left = k;
+    while 0 < left {
+        if n <= id {
+            return Chosen::ChosenBroken;
+        }
+        let Chosen::ChosenIs(e) = better(ws, h, id, best) else {
+            return Chosen::ChosenBroken;
+        };
+        best = e;
+        left -= 1;
+        id = parts::on_members::link(ws, h, id);
+    }
+    Chosen::ChosenIs(best)
 }
