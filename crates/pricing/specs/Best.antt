@@ -48,11 +48,11 @@ pub record Chooses (b : Entry) (price id : ℕ) (r : Entry) : Type 0 where
   pub law : (key : ℕ → Term) (o : Option (Best ℕ)) → Means key b o → Means key r (better AstSize (key id) (some price) o)
 
 -- prices of 64 bits are below the cap
-no-more : (p q : ℕ) → p < 2 ^ 64 → q < 2 ^ 64 → p ≤ q → min p cap ≤ min q cap
+pub no-more : (p q : ℕ) → p < 2 ^ 64 → q < 2 ^ 64 → p ≤ q → min p cap ≤ min q cap
 unfolding cap
 no-more p q a b h = omega arith
 
-more : (p q : ℕ) → p < 2 ^ 64 → q < 2 ^ 64 → q < p → min p cap ≤ min q cap → ⊥
+pub more : (p q : ℕ) → p < 2 ^ 64 → q < 2 ^ 64 → q < p → min p cap ≤ min q cap → ⊥
 unfolding cap
 more p q a b h k = omega arith
 

@@ -21,6 +21,10 @@ ghost use Rattle.price.specs.Size.{cap};
 ghost use Rattle.pricing.specs.Entries.{EntryAt, Keeps};
 ghost use Rattle.pricing.specs.Node.{CostsNode};
 ghost use Rattle.pricing.specs.Best.{BestOf, Betters, Chooses};
+ghost use Rattle.pricing.specs.Turn.{Accepts, Turns};
+ghost use Rattle.pricing.specs.Pass.{Passes};
+ghost use Rattle.pricing.specs.Costs.{FindsCosts};
+use cells::Change;
 use language::Id;
 use language::Node;
 use layout::Head;
@@ -191,4 +195,76 @@ fn class_best(ws: &[u32], h: Head, r: usize) -> Chosen
         id = parts::on_members::link(ws, h, id);
     }
     Chosen::ChosenIs(best)
+}
+
+// ---- the passes
+
+// Whether a class with the entry `old` takes the best of its nodes: if it has none yet, or if the price is strictly less.
+fn accepts(old: Entry, best: Entry) -> bool
+    ensures { λ r. ⌜ Accepts old best r ⌝ }
+{
+    if best.mark == 0 {
+        return false;
+    }
+    if old.mark == 0 {
+        return true;
+    }
+    if best.price < old.price {
+        return true;
+    }
+    false
+}
+
+// One class's turn.
+fn turn(ws: &mut [u32], h: Head, r: usize) -> Taken
+    requires { ⌜ HeadOk (length (now ws)) h ⌝ }
+    requires { ⌜ r < h .n ⌝ }
+    ensures { λ o. ⌜ Turns h r (now (ws .entry)) o (now (ws .exit)) ⌝ }
+{
+    let Chosen::ChosenIs(best) = class_best(ws, h, r) else {
+        return Taken::TakenBroken;
+    };
+    let old = get_entry(ws, h, r);
+    if accepts(old, best) {
+        set_entry(ws, h, r, best);
+        return Taken::TakenIs(1);
+    }
+    Taken::TakenIs(0)
+}
+
+// A pass over the classes in ascending root id: what one turn takes counts in the next.
+fn pass(ws: &mut [u32], h: Head) -> Taken
+    requires { ⌜ HeadOk (length (now ws)) h ⌝ }
+    ensures { λ r. ⌜ Passes h (now (ws .entry)) r (now (ws .exit)) ⌝ }
+{
+    let ids = h.ids;
+    let mut taken: usize = 0;
+    let mut r: usize = 0;
+    while r < ids {
+        let Taken::TakenIs(k) = turn(ws, h, r) else {
+            return Taken::TakenBroken;
+        };
+        taken += k;
+        r += 1;
+    }
+    Taken::TakenIs(taken)
+}
+
+// Passes until one takes nothing. On a graph's words this comes within one more than there are classes; words that go on longer are no graph's.
+pub fn find_costs(ws: &mut [u32], h: Head) -> Change
+    requires { ⌜ HeadOk (length (now ws)) h ⌝ }
+    ensures { λ r. ⌜ FindsCosts h (now (ws .entry)) r (now (ws .exit)) ⌝ }
+{
+    let rounds = h.ids + 1;
+    let mut i: usize = 0;
+    while i < rounds {
+        let Taken::TakenIs(k) = pass(ws, h) else {
+            return Change::ChangeBroken;
+        };
+        if k == 0 {
+            return Change::ChangeDone;
+        }
+        i += 1;
+    }
+    Change::ChangeBroken
 }
