@@ -73,7 +73,7 @@ module _ (old new : Entry) where
         go key none (some b) M N = absurd (w M)
         go key (some a) (some b) M N =
             let q : min (a .price) cap ≤ min (b .price) cap → ⊥ =
-                more (a .price) (b .price) (omega (arith, M .small, M .price-is)) (omega (arith, N .small, N .price-is)) (omega (arith, M .price-is, N .price-is)) in
+            more (a .price) (b .price) (omega (arith, M .small, M .price-is)) (omega (arith, N .small, N .price-is)) (omega (arith, M .price-is, N .price-is)) in
             record { best = b; named = N; grown = λ r t. when-no (decLe (min (a .price) cap) (min (b .price) cap)) t ((r, b) ∷ t) q }
 
     pub accept-no : old .price ≤ new .price → Accepts old new false
@@ -85,7 +85,7 @@ module _ (old new : Entry) where
         go key none (some b) M N r t = absurd (w M)
         go key (some a) (some b) M N r t =
             let q : min (a .price) cap ≤ min (b .price) cap =
-                no-more (a .price) (b .price) (omega (arith, M .small, M .price-is)) (omega (arith, N .small, N .price-is)) (omega (arith, M .price-is, N .price-is)) in
+            no-more (a .price) (b .price) (omega (arith, M .small, M .price-is)) (omega (arith, N .small, N .price-is)) (omega (arith, M .price-is, N .price-is)) in
             when-yes (decLe (min (a .price) cap) (min (b .price) cap)) t ((r, b) ∷ t) q
 
 -- ---- the turn
