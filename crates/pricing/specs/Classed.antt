@@ -4,7 +4,7 @@
 use mathlib.Core.Bool.{true}
 use mathlib.Core.List.{List, map}
 use mathlib.Core.Path.{_∙_, _≡_, ap, refl, subst, sym}
-use Prim.Native.Nat.{_<_, ℕ}
+use Prim.Native.Nat.{_<_, _≤_, ℕ}
 use native.Mathlib.Omega.{arith}
 use lib.ListN.{length, length-map}
 use Rattle.lists.specs.Members.{Mem, mem-at}
@@ -14,6 +14,8 @@ use Rattle.steps.specs.Classes.{class-nodes, class-roots}
 use Rattle.steps.specs.Graph.{Graph, ids, key-of, node, root}
 use Rattle.closure.specs.Listed.{nodes-from, roots-has}
 use Rattle.cells.specs.Pool.{Pool, row}
+use Rattle.eclass.specs.ClassCount.{total-of}
+use Rattle.eclass.specs.ClassHeld.{total-few}
 use Rattle.holds.specs.Holds.{HoldsAt}
 use Rattle.holds.specs.HoldsLaws.{root-again}
 use Rattle.layout.specs.Cut.{scratch}
@@ -37,6 +39,7 @@ pub record Classed (h : Head) (v : View) (g : Graph) : Type 0 where
   -- the list of a root has an id for each node of the class, in node order
   pub lists : List (List ℕ)
   pub pool : Pool (v .members) (h .n) (h .n) lists
+  pub few : total-of (v .members) (h .n) (h .ids) ≤ h .ids
   pub in-ids : (a x : ℕ) → Mem x (row lists a) → x < ids g
   pub tidy-lists : (r : ℕ) → map (key-of g) (row lists r) ≡ class-nodes g r
   pub kids-in : (i : ℕ) → i < ids g → KidsIn (h .ids) (key-of g i)
@@ -53,6 +56,7 @@ classed {h} {u} {v} {g} H c K = record {
   tidy-keys = H .tidy-keys c;
   lists = H .members .lists;
   pool = H .members .pool;
+  few = total-few H c;
   in-ids = λ a x m. rw (← H .ids-are) (H .members .in-class a x m .0);
   tidy-lists = H .tidy-lists c;
   kids-in = λ i lt j l. kid i lt j (rw length-map at l);
@@ -78,6 +82,7 @@ classed-scratch l C = record {
   tidy-keys = C .tidy-keys;
   lists = C .lists;
   pool = C .pool;
+  few = C .few;
   in-ids = C .in-ids;
   tidy-lists = C .tidy-lists;
   kids-in = C .kids-in;

@@ -14,6 +14,9 @@ use Rattle.steps.specs.Classes.{class-nodes, class-roots}
 use Rattle.steps.specs.Graph.{Graph, ids, key-of, root}
 use Rattle.cells.specs.declared.Change.{Change}
 use Rattle.cells.specs.declared.Change.the-variants.{ChangeBroken, ChangeDone}
+use Rattle.eclass.specs.Checks.{Totals}
+use Rattle.eclass.specs.declared.Total.{Total}
+use Rattle.eclass.specs.declared.Total.the-variants.{TotalBroken}
 use Rattle.layout.specs.Idle.{lent-same}
 use Rattle.layout.specs.View.{View, view}
 use Rattle.layout.specs.declared.Head.{Head}
@@ -47,6 +50,10 @@ pub record Finding (h : Head) (i : ℕ) (ws ws′ : List ℕ) : Type 0 where
       → On-way g (h .n) i (view (h .n) (h .m) ws′ .scratch)
 
 module _ (h : Head) (ws : List ℕ) where
+  -- more nodes than ids: no graph's words
+  pub costs-long : (r : Total) → Totals (view (h .n) (h .m) ws .members) (h .n) (h .ids) r → r ≡ TotalBroken → FindsCosts h ws ChangeBroken ws
+  costs-long r T e = record { only = lent-same ws tt; law = λ g C P. absurd (omega (arith, T .broken e, C .few)) }
+
   pub finding-start : Finding h 0 ws ws
   finding-start = record { only = lent-same ws tt; law = λ g C P. first g P (end-in-time AstSize (class-nodes g) (class-roots g) (C .listed)) }
     where

@@ -255,6 +255,10 @@ pub fn find_costs(ws: &mut [u32], h: Head) -> Change
     requires { ⌜ HeadOk (length (now ws)) h ⌝ }
     ensures { λ r. ⌜ FindsCosts h (now (ws .entry)) r (now (ws .exit)) ⌝ }
 {
+    // a pass looks at no more nodes than there are ids
+    let eclass::Total::TotalIs(total) = eclass::count_nodes(ws, h) else {
+        return Change::ChangeBroken;
+    };
     let rounds = h.ids + 1;
     let mut i: usize = 0;
     while i < rounds {
