@@ -30,7 +30,7 @@ use Rattle.layout.specs.declared.Head.{Head}
 use Rattle.price.specs.Extract.{table}
 use Rattle.price.specs.Pass.{Best, look}
 use Rattle.price.specs.Size.{AstSize}
-use Rattle.pricing.specs.Classed.{Known, classed}
+use Rattle.pricing.specs.Classed.{KidsKnown, classed}
 use Rattle.pricing.specs.Costs.{FindsCosts}
 use Rattle.pricing.specs.Entries.{As, EntryAt, Prices, entry-as, prices-none}
 use Rattle.pricing.specs.Turn.{Scratched}
@@ -64,7 +64,7 @@ pub record CostOpen (ws : List ℕ) (i : ℕ) (r : CostAnswer) (ws′ : List ℕ
   pub rest : past ws ws′ ≡ past ws ws
   pub limits : SameLimits ws ws′
   pub fair : (k : ℕ) → cost-says r ≡ no-by k → k ≡ 9
-  pub sound : (g : Graph) → Holds ws g → Known g → (cost-says r ≡ price-says (cost-of g i)) × Holds ws′ g
+  pub sound : (g : Graph) → Holds ws g → KidsKnown g → (cost-says r ≡ price-says (cost-of g i)) × Holds ws′ g
 
 abbrev pub CostSays : List ℕ → ℕ → CostAnswer → List ℕ → Type 0
 CostSays ws i r ws′ =
@@ -79,7 +79,7 @@ CostSays ws i r ws′ =
 pub record WorksOut (h : Head) (i : ℕ) (ws : List ℕ) (r : CostAnswer) (ws′ : List ℕ) : Type 0 where
   pub only : Scratched (h .n) (h .m) ws ws′
   pub fair : (k : ℕ) → cost-says r ≡ no-by k → k ≡ 9
-  pub sound : (g : Graph) → Holds ws g → g .clean ≡ true → Known g → cost-says r ≡ price-says (cost-of g i)
+  pub sound : (g : Graph) → Holds ws g → g .clean ≡ true → KidsKnown g → cost-says r ≡ price-says (cost-of g i)
 
 module _ (h : Head) (i : ℕ) (ws : List ℕ) (q : HeadIs (length ws) (hd ws) h) (hi : i < h .ids) (f : FindAnswer) (F : FindSays ws i f) where
   -- what `find` answers on words that hold a graph
@@ -106,7 +106,7 @@ module _ (h : Head) (i : ℕ) (ws : List ℕ) (q : HeadIs (length ws) (hd ws) h)
 
     module _ (ws1 : List ℕ) (o : Change) (C : FindsCosts h ws o ws1) where
       -- what the passes leave on words that hold a graph
-      worked : (g : Graph) → Holds ws g → g .clean ≡ true → Known g → (o ≡ ChangeDone) × Prices (key-of g) (h .n) (view (h .n) (h .m) ws1 .scratch) (table AstSize g)
+      worked : (g : Graph) → Holds ws g → g .clean ≡ true → KidsKnown g → (o ≡ ChangeDone) × Prices (key-of g) (h .n) (view (h .n) (h .m) ws1 .scratch) (table AstSize g)
       worked g H c K = let I = holds-in ws h g q H in C .law g (classed I c K) (rw (I .scratch) (prices-none (key-of g) (h .n) (6 * h .n)))
 
       pub work-broken : o ≡ ChangeBroken → WorksOut h i ws (CostNot BrokenWords) ws1
@@ -117,7 +117,7 @@ module _ (h : Head) (i : ℕ) (ws : List ℕ) (q : HeadIs (length ws) (hd ws) h)
 
       module _ (y : Entry) (lt : x .0 < h .n) (E : EntryAt (h .n) (view (h .n) (h .m) ws1 .scratch) (x .0) y) where
         -- the entry of the id's class
-        entry-is : (g : Graph) → Holds ws g → g .clean ≡ true → Known g → As (key-of g) (y .mark) (y .price) (cost-of g i)
+        entry-is : (g : Graph) → Holds ws g → g .clean ≡ true → KidsKnown g → As (key-of g) (y .mark) (y .price) (cost-of g i)
         entry-is g H c K = rw (← root-is g H) (entry-as (key-of g) (h .n) (view (h .n) (h .m) ws1 .scratch) (table AstSize g) (x .0) y (worked g H c K .1) lt E)
 
         pub work-none : y .mark ≡ 0 → WorksOut h i ws (CostNot BrokenWords) ws1
