@@ -23,7 +23,7 @@ module _ (n m : ℕ) (ws ws′ : List ℕ) (same : view n m ws ≡ view n m ws�
   step k e q d =
       let le : lower k n m ≤ upper k n m = omega (arith, upper-is k n m) in
       let p : part ws (lower k n m) (upper k n m) ≡ part ws′ (lower k n m) (upper k n m) =
-          sym (get-part k n m ws) ∙ ap (get k) same ∙ get-part k n m ws′ in
+      sym (get-part k n m ws) ∙ ap (get k) same ∙ get-part k n m ws′ in
       let u : drop (upper k n m) ws ≡ drop (upper k n m) ws′ = subst (λ (j : ℕ). drop j ws ≡ drop j ws′) q d in
       sym (seam ws (lower k n m) (upper k n m) le) ∙ rw (p, u) (seam ws′ (lower k n m) (upper k n m) le)
 
