@@ -22,7 +22,7 @@ use Rattle.adding.specs.declared.Gave.the-variants.{GaveBroken, GaveFull, GaveN
 use Rattle.adding.specs.declared.Probed.{Probed}
 use Rattle.adding.specs.declared.Seen.the-variants.{SeenAt, SeenBroken, SeenNone}
 use Rattle.unionfind.specs.declared.Found.{Found}
-use Rattle.egraph.specs.Answers.{Answer, Else, Good, SameLimits, Unless-3, add-says, head-of, ids-is, limits-stay, limits-written, lookup-says, never, nine, no-by, number-of, ok-still, pass, past, past-rest, stop, yes-with}
+use Rattle.egraph.specs.Answers.{Answer, Else, Good, SameLimits, Unless-3, add-says, head-of, ids-is, limits-stay, limits-written, lookup-says, never, nine, no-by, number-of, ok-still, pass, past, past-rest, scratch-of, scratch-still, stop, yes-with}
 use Rattle.egraph.specs.declared.AddAnswer.{AddAnswer}
 use Rattle.egraph.specs.declared.AddAnswer.the-variants.{AddId, AddNot}
 use Rattle.egraph.specs.declared.Gate.{Gate}
@@ -160,6 +160,7 @@ module _ (ws : List ℕ) (h : Head) (q : HeadIs (length ws) (hd ws) h) (x : Node
 pub record Adding (id : Graph → ℕ) (ws : List ℕ) (x : Term) (r : AddAnswer) (ws′ : List ℕ) : Type 0 where
   pub size : length ws′ ≡ length ws
   pub rest : past ws ws′ ≡ past ws ws
+  pub scratch : scratch-of ws ws′ ≡ scratch-of ws ws
   pub limits : SameLimits ws ws′
   pub fair : (k : ℕ) → add-says r ≡ no-by k → (k ≡ 9) ⊎ ((k ≡ 6) × (ws′ ≡ ws))
   pub found : (g : Graph) (i : ℕ) → Holds ws g → kept-for g x ≡ some i → (add-says r ≡ yes-with (id g ∷ [])) × (ws′ ≡ ws)
@@ -222,6 +223,7 @@ module _ (id : Graph → ℕ) (ws : List ℕ) (h : Head) (q : HeadIs (length ws)
   adding-broken e = record {
     size = U .inside .size;
     rest = past-rest ws h q ws1 (U .inside .rest);
+    scratch = scratch-still ws h q ws1 (U .inside .scratch);
     limits = limits-stay ws ws1 (U .inside .head);
     fair = λ k s. inl (nine k s);
     found = λ g i H k. let a = U .found g i (holds-in ws h g q H) k in let z : _≡_ {A = ℕ} 0 1 = cc in absurd (omega arith);
@@ -233,6 +235,7 @@ module _ (id : Graph → ℕ) (ws : List ℕ) (h : Head) (q : HeadIs (length ws)
   adding-full e = record {
     size = U .inside .size;
     rest = past-rest ws h q ws1 (U .inside .rest);
+    scratch = scratch-still ws h q ws1 (U .inside .scratch);
     limits = limits-stay ws ws1 (U .inside .head);
     fair = λ k s. inr (sym (ap (λ (a : Answer). a .number) s), U .full e .1);
     found = λ g i H k. let a = U .found g i (holds-in ws h g q H) k in let z : _≡_ {A = ℕ} 0 1 = cc in absurd (omega arith);
@@ -255,6 +258,7 @@ module _ (id : Graph → ℕ) (ws : List ℕ) (h : Head) (q : HeadIs (length ws)
     adding-old v w = record {
       size = U .inside .size;
       rest = past-rest ws h q ws1 (U .inside .rest);
+      scratch = scratch-still ws h q ws1 (U .inside .scratch);
       limits = limits-stay ws ws1 (U .inside .head);
       fair = λ k s. absurd (never k v s);
       found = λ g i H k. (ap (λ (j : ℕ). yes-with (j ∷ [])) (sym (w g H (k ∙ ap some (old-is g i H k)))), U .old y e .1);
@@ -273,6 +277,7 @@ module _ (id : Graph → ℕ) (ws : List ℕ) (h : Head) (q : HeadIs (length ws)
       adding-lost l = record {
         size = U .inside .size;
         rest = past-rest ws h q ws1 (U .inside .rest);
+        scratch = scratch-still ws h q ws1 (U .inside .scratch);
         limits = limits-stay ws ws1 (U .inside .head);
         fair = λ k s. inl (nine k s);
         found = λ g i H k. let a = find-law g H in let z : _≡_ {A = ℕ} 0 1 = cc in absurd (omega arith);
@@ -285,6 +290,7 @@ module _ (id : Graph → ℕ) (ws : List ℕ) (h : Head) (q : HeadIs (length ws)
   adding-new k e ws2 N w = record {
     size = N .size ∙ U .inside .size;
     rest = past-rest ws h q ws2 (ap (λ (v : View). v .rest) (N .else (h .n) (h .m)) ∙ U .inside .rest);
+    scratch = scratch-still ws h q ws2 (ap (λ (v : View). v .scratch) (N .else (h .n) (h .m)) ∙ U .inside .scratch);
     limits = limits-written ws ws1 ws2 h k q N2 (ok-still N2 (U .inside .size)) N;
     fair = λ j s. absurd (never j (h .ids) s);
     found = λ g i H m. let a = U .found g i (holds-in ws h g q H) m in let z : _≡_ {A = ℕ} 0 1 = cc in absurd (omega arith);

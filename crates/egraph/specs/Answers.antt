@@ -204,6 +204,14 @@ past-rest ws h q ws′ e =
     let p : drop (need (h .n) (h .m)) ws′ ≡ drop (need (h .n) (h .m)) ws = sym (view-rest (h .n) (h .m) ws′) ∙ e ∙ view-rest (h .n) (h .m) ws in
     subst (λ (s : Head). drop (need (s .n) (s .m)) ws′ ≡ drop (need (s .n) (s .m)) ws) (q .is) p
 
+-- the scratch part, as the limits that stand in ws cut it: calls that do not work in it leave it as it was
+abbrev pub scratch-of : List ℕ → List ℕ → List ℕ
+scratch-of ws ws′ = view (head-of ws .n) (head-of ws .m) ws′ .scratch
+
+pub scratch-still : (ws : List ℕ) (h : Head) → HeadIs (length ws) (hd ws) h → (ws′ : List ℕ) → view (h .n) (h .m) ws′ .scratch ≡ view (h .n) (h .m) ws .scratch
+    → scratch-of ws ws′ ≡ scratch-of ws ws
+scratch-still ws h q ws′ e = subst (λ (s : Head). view (s .n) (s .m) ws′ .scratch ≡ view (s .n) (s .m) ws .scratch) (q .is) e
+
 -- a head that stays in range while the words keep their number
 pub ok-still : {len len′ : ℕ} {h k : Head} → Near len h k → len′ ≡ len → HeadOk len′ k
 ok-still {k = k} p e = subst (λ (l : ℕ). HeadOk l k) (sym e) (p .ok)

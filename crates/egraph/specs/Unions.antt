@@ -10,7 +10,7 @@ use native.Mathlib.Omega.{arith}
 use lib.ListN.{length}
 use Rattle.steps.specs.Graph.{Graph}
 use Rattle.steps.specs.Machine.{union}
-use Rattle.egraph.specs.Answers.{Else, SameLimits, Unless-3, flag, head-of, limits-stay, limits-written, never, nine, no-by, ok-still, past, past-rest, union-says, written-back, yes-with}
+use Rattle.egraph.specs.Answers.{Else, SameLimits, Unless-3, flag, head-of, limits-stay, limits-written, never, nine, no-by, ok-still, past, past-rest, scratch-of, scratch-still, union-says, written-back, yes-with}
 use Rattle.egraph.specs.declared.Refusal.the-variants.{BrokenWords}
 use Rattle.egraph.specs.declared.UnionAnswer.{UnionAnswer}
 use Rattle.egraph.specs.declared.UnionAnswer.the-variants.{UnionNo, UnionNot, UnionYes}
@@ -28,6 +28,7 @@ use Rattle.uniting.specs.declared.United.the-variants.{UnitedBroken, UnitedNo, 
 pub record UnionOpen (ws : List ℕ) (i j : ℕ) (r : UnionAnswer) (ws′ : List ℕ) : Type 0 where
   pub size : length ws′ ≡ length ws
   pub rest : past ws ws′ ≡ past ws ws
+  pub scratch : scratch-of ws ws′ ≡ scratch-of ws ws
   pub limits : SameLimits ws ws′
   pub fair : (k : ℕ) → union-says r ≡ no-by k → k ≡ 9
   pub sound : (g : Graph) → Holds ws g → (union-says r ≡ yes-with (flag (union g i j .answer))) × Holds ws′ (union g i j .graph)
@@ -50,6 +51,7 @@ module _ (ws : List ℕ) (h : Head) (q : HeadIs (length ws) (hd ws) h) (i j : �
   union-broken e = record {
     size = U .inside .size;
     rest = past-rest ws h q ws1 (U .inside .rest);
+    scratch = scratch-still ws h q ws1 (U .inside .scratch);
     limits = limits-stay ws ws1 (U .inside .head);
     fair = nine;
     sound = λ g H. let s = U .sound g (h .places) (holds-in ws h g q H) in absurd (lost (union g i j .answer) (s .0) (sym e ∙ s .1));
@@ -67,6 +69,9 @@ module _ (ws : List ℕ) (h : Head) (q : HeadIs (length ws) (hd ws) h) (i j : �
     rest2 : past ws ws2 ≡ past ws ws
     rest2 = past-rest ws h q ws2 (ap (λ (v : View). v .rest) (N .else (h .n) (h .m)) ∙ U .inside .rest)
 
+    scratch2 : scratch-of ws ws2 ≡ scratch-of ws ws
+    scratch2 = scratch-still ws h q ws2 (ap (λ (v : View). v .scratch) (N .else (h .n) (h .m)) ∙ U .inside .scratch)
+
     held : (g : Graph) → HoldsAt k (h .places) (view (h .n) (h .m) ws1) g → Holds ws2 g
     held g H = written-back ws ws1 ws2 h k (U .inside .size) N2 N g H
 
@@ -74,6 +79,7 @@ module _ (ws : List ℕ) (h : Head) (q : HeadIs (length ws) (hd ws) h) (i j : �
     union-yes e = record {
       size = size2;
       rest = rest2;
+      scratch = scratch2;
       limits = limits-written ws ws1 ws2 h k q (N2 .near) (ok-still (N2 .near) (U .inside .size)) N;
       fair = λ x p. absurd (never x 1 p);
       sound = λ g H. let s = U .sound g (h .places) (holds-in ws h g q H) in go g (union g i j .answer) refl (s .0) (sym e ∙ s .1) (s .2);
@@ -88,6 +94,7 @@ module _ (ws : List ℕ) (h : Head) (q : HeadIs (length ws) (hd ws) h) (i j : �
     union-no e = record {
       size = size2;
       rest = rest2;
+      scratch = scratch2;
       limits = limits-written ws ws1 ws2 h k q (N2 .near) (ok-still (N2 .near) (U .inside .size)) N;
       fair = λ x p. absurd (never x 0 p);
       sound = λ g H. let s = U .sound g (h .places) (holds-in ws h g q H) in go g (union g i j .answer) refl (s .0) (sym e ∙ s .1) (s .2);

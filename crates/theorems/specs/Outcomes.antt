@@ -116,10 +116,17 @@ lists-one xs out r r′ o o′ p q = go (lt-or (length out) (length xs))
 -- ---- setup: of any words
 
 pub setup-one : (ws : List ℕ) (n m : ℕ) (r r′ : SetupAnswer) (ws1 ws1′ : List ℕ) → SetupSays ws n m r ws1 → SetupSays ws n m r′ ws1′
-    → (setup-says r ≡ setup-says r′) × ((ws1 ≡ ws1′) ⊎ (Holds ws1 fresh × Holds ws1′ fresh))
+    → (setup-says r ≡ setup-says r′) × ((ws1 ≡ ws1′) ⊎ One (setup-says r) (setup-says r′) ws1 ws1′)
 setup-one ws n m r r′ ws1 ws1′ s t =
     both-ends (limits-or n m) s t (λ p q. (p .0 ∙ sym (q .0), inl (p .1 ∙ sym (q .1))))
-    (λ s t. both-ends (lt-or (length ws) (need n m)) s t (λ p q. (p .0 ∙ sym (q .0), inl (p .1 ∙ sym (q .1)))) (λ p q. (p .done ∙ sym (q .done), inr (p .held, q .held))))
+    (λ s t. both-ends (lt-or (length ws) (need n m)) s t (λ p q. (p .0 ∙ sym (q .0), inl (p .1 ∙ sym (q .1)))) (λ p q. (
+      p .done ∙ sym (q .done),
+      inr (record {
+        answer = p .done ∙ sym (q .done);
+        limits = (ap (λ (k : Head). k .n) (q .limits ∙ sym (p .limits)), ap (λ (k : Head). k .m) (q .limits ∙ sym (p .limits)));
+        graph = (fresh, p .held, q .held);
+      }),
+    )))
 
 -- ---- two slices of words that hold one graph under the same limits
 
