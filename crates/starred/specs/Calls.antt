@@ -7,6 +7,7 @@ use native.Mathlib.Decide.{decLe, decLt, ℕ-discrete}
 use Rattle.lists.specs.Keeps.{any, any-more, upto}
 use Rattle.lists.specs.Relabel.{relabel}
 use Rattle.lists.specs.Sums.{sum-of}
+use Rattle.lists.specs.Tests.{when}
 use Rattle.language.specs.Ordered.{compare, compare-all, order}
 use Rattle.language.specs.Sorted.{insert, sorted}
 use Rattle.language.specs.Term.{Term, same-list, same-term, spell}
@@ -52,14 +53,14 @@ abbrev price-or-nothing : Option (Best ℕ) → List ℕ
 price-or-nothing none = []
 price-or-nothing (some b) = b .price ∷ []
 
--- a rebuild takes at most 80 entries here: more fuel than any case takes (`run-enough`)
+-- a rebuild here takes fewer than 80 entries, or it answers nothing; so where the cases hold none was cut short (`run-rebuild` of closure)
 call : Graph → Call → Said
 call g (add x) = let a = Machine.add g x in said (a .graph) (a .id ∷ [])
 call g (add-uncanonical x) = let a = Machine.add-uncanonical g x in said (a .graph) (a .id ∷ [])
 call g (lookup x) = said g (or-nothing (Machine.lookup g x))
 call g (find i) = said g (root (g .roots) i ∷ [])
 call g (union i j) = let u = Machine.union g i j in said (u .graph) (count (u .answer) ∷ [])
-call g rebuild = let r = run 80 g in said (r .graph) (r .yeses ∷ [])
+call g rebuild = let r = run 80 g in said (r .graph) (when (decLt (r .entries) 80) (r .yeses ∷ []) [])
 call g clean = said g (count (g .clean) ∷ [])
 call g number-of-classes = said g (Classes.number-of-classes g ∷ [])
 call g total-number-of-nodes = said g (Classes.total-number-of-nodes g ∷ [])

@@ -52,8 +52,8 @@ table =
     after-A
     (rebuild ∷ find 0 ∷ find 1 ∷ find 2 ∷ find 3 ∷ number-of-classes ∷ total-number-of-nodes ∷ classes ∷ [])
     (1 ∷ 0 ∷ 0 ∷ 2 ∷ 2 ∷ 2 ∷ 3 ∷ (0 ∷ 2 ∷ 1 ∷ 0 ∷ 0 ∷ 2 ∷ 0 ∷ 0 ∷ 2 ∷ 1 ∷ 3 ∷ 0 ∷ 1 ∷ 0 ∷ []))
-    ∷  -- C: after B, `add_uncanonical` of f(1) answers 2; `clean` stays true
-    after-A (rebuild ∷ add-uncanonical (f 1) ∷ clean ∷ []) (1 ∷ 2 ∷ 1 ∷ [])
+    ∷  -- C: after B, `add_uncanonical` of f(1) answers 2; `clean` stays true; no new id: the nodes are a, b, f(0), f(1)
+    after-A (rebuild ∷ add-uncanonical (f 1) ∷ clean ∷ nodes ∷ []) (1 ∷ 2 ∷ 1 ∷ (1 ∷ 0 ∷ 0 ∷ 2 ∷ 0 ∷ 0 ∷ 3 ∷ 0 ∷ 1 ∷ 0 ∷ 3 ∷ 0 ∷ 1 ∷ 1 ∷ []))
     ∷  -- D: after B, size of id 3 is 2; form: a, then f of place 0
     after-A (rebuild ∷ find-best-cost 3 ∷ find-best 3 ∷ []) (1 ∷ 2 ∷ (1 ∷ 0 ∷ 0 ∷ 3 ∷ 0 ∷ 1 ∷ 0 ∷ []))
     ∷  -- E: before rebuild, ids 2 and 3 have different roots
