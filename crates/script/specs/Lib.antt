@@ -8,3 +8,4 @@ pub mod LineLaws
 pub mod Reply
 pub mod Puts
 pub mod Examples
+pub mod Gathered

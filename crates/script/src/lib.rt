@@ -78,6 +78,7 @@ pub mod fields;
 pub mod lines;
 pub mod verbs;
 
+pub use lines::keep;
 pub use lines::parse;
 
 pub mod replies;

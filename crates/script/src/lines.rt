@@ -1,10 +1,11 @@
 // What a whole line says.
 ghost use mathlib.Core.List.{List, _∷_};
 ghost use mathlib.Core.Path.{_≡_};
-ghost use Prim.Native.Nat.{ℕ};
-ghost use lib.ListN.{take};
+ghost use Prim.Native.Nat.{ℕ, _≤_};
+ghost use lib.ListN.{length, take};
 ghost use Rattle.script.specs.Fields.{fieldsOf, Sought, NumbersSay};
 ghost use Rattle.script.specs.Line.{Says};
+ghost use Rattle.script.specs.Gathered.{Keeps};
 use super::Call;
 use super::LONGEST;
 use super::NUMBERS;
@@ -35,7 +36,19 @@ fn arguments(line: &[u8], e: usize) -> Row
     super::fields::numbers(&line[e + 1..])
 }
 
-// What a line without its line feed says. Of a line of more than 4,096 bytes any 4,097 say the same.
+// One byte more of a line that is read byte by byte; bytes past the slice's length are passed over. A slice of LONGEST + 1 bytes is enough to know what the line says.
+pub fn keep(line: &mut [u8], used: usize, b: u8) -> usize
+    requires { ⌜ used ≤ length (now line) ⌝ }
+    ensures { λ r. ⌜ Keeps (now (line .entry)) used b r (now (line .exit)) ⌝ }
+{
+    if line.len() <= used {
+        return used;
+    }
+    line[used] = b;
+    used + 1
+}
+
+// What a line without its line feed says.
 pub fn parse(line: &[u8]) -> Call
     ensures { λ r. ⌜ Says (now (line .entry)) r ⌝ }
 {
