@@ -8,6 +8,7 @@ use Prim.Native.Nat.{_<_, _≤_, ℕ}
 use lib.ListN.{drop, length, take}
 use Rattle.language.specs.Struct.{nodeOf}
 use Rattle.language.specs.Term.{words}
+use Rattle.steps.specs.Graph.{Graph}
 use Rattle.egraph.specs.declared.AddAnswer.{AddAnswer}
 use Rattle.egraph.specs.declared.AddAnswer.the-variants.{AddId, AddNot}
 use Rattle.egraph.specs.declared.CountAnswer.{CountAnswer}
@@ -29,14 +30,17 @@ use Rattle.egraph.specs.declared.SetupAnswer.{SetupAnswer}
 use Rattle.egraph.specs.declared.SetupAnswer.the-variants.{SetupDone, SetupNot}
 use Rattle.egraph.specs.declared.UnionAnswer.{UnionAnswer}
 use Rattle.egraph.specs.declared.UnionAnswer.the-variants.{UnionNo, UnionNot, UnionYes}
+use Rattle.holds.specs.Holds.{Holds, HoldsAt}
+use Rattle.holds.specs.HoldsLaws.{holds-written}
 use Rattle.holds.specs.Inside.{Near}
 use Rattle.layout.specs.Cut.{need}
 use Rattle.layout.specs.Head.{GoodHead, HeadIs, HeadOk, HeadSays, head-bad, head-good, head-is, numbers}
-use Rattle.layout.specs.View.{hd, view, view-rest}
+use Rattle.layout.specs.View.{View, hd, view, view-rest}
 use Rattle.layout.specs.Written.{Noted, head-written, noted-hd, written}
 use Rattle.layout.specs.declared.Head.{Head}
 use Rattle.layout.specs.declared.HeadRead.{HeadRead}
 use Rattle.layout.specs.declared.HeadRead.the-variants.{HeadBad, HeadGood}
+use Rattle.uniting.specs.Near.{NearIds, view-near}
 
 pub record Answer : Type 0 where
   pub number : ℕ
@@ -191,3 +195,10 @@ pub limits-written : (ws ws1 ws2 : List ℕ) (h k : Head) {len : ℕ} → HeadIs
 limits-written ws ws1 ws2 h k q near ok N =
     let p : k ≡ numbers (hd ws2) = rw (noted-hd N) (head-written (length ws1) (hd ws1) k ok .is) in
     (sym (ap (λ (s : Head). s .n) p) ∙ near .n-is ∙ ap (λ (s : Head). s .n) (q .is), sym (ap (λ (s : Head). s .m) p) ∙ near .m-is ∙ ap (λ (s : Head). s .m) (q .is))
+
+-- the head written back, with numbers near those that were read: the words hold what the parts hold
+pub written-back : (ws ws1 ws2 : List ℕ) (h k : Head) → length ws1 ≡ length ws → NearIds (length ws) h k → Noted ws1 ws2 (written (hd ws1) k)
+    → (g : Graph) → HoldsAt k (h .places) (view (h .n) (h .m) ws1) g → Holds ws2 g
+written-back ws ws1 ws2 h k size near N g H =
+    let K = subst (λ (v : View). HoldsAt k (h .places) v g) (sym (view-near near ws1)) H in
+    holds-written ws1 ws2 k g (ok-still (near .near) size) N (subst (λ (u : ℕ). HoldsAt k u (view (k .n) (k .m) ws1) g) (sym (near .places-is)) K)

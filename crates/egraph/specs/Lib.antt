@@ -5,3 +5,4 @@ pub mod Unions
 pub mod Stored
 pub mod Listing
 pub mod Adds
+pub mod Rebuilds

@@ -4,23 +4,24 @@
 use mathlib.Core.Bool.{Bool, false, true}
 use mathlib.Core.List.{List, [], _∷_}
 use mathlib.Core.Logic.{_⊎_, inl, inr}
-use mathlib.Core.Path.{_∙_, _≡_, ap, refl, subst, sym}
+use mathlib.Core.Path.{_∙_, _≡_, ap, refl, sym}
 use Prim.Native.Nat.{_<_, _≤_, ℕ}
 use native.Mathlib.Omega.{arith}
 use lib.ListN.{length}
 use Rattle.steps.specs.Graph.{Graph}
 use Rattle.steps.specs.Machine.{union}
-use Rattle.egraph.specs.Answers.{Else, SameLimits, Unless-3, flag, head-of, limits-stay, limits-written, never, nine, no-by, ok-still, past, past-rest, union-says, yes-with}
+use Rattle.egraph.specs.Answers.{Else, SameLimits, Unless-3, flag, head-of, limits-stay, limits-written, never, nine, no-by, ok-still, past, past-rest, union-says, written-back, yes-with}
 use Rattle.egraph.specs.declared.Refusal.the-variants.{BrokenWords}
 use Rattle.egraph.specs.declared.UnionAnswer.{UnionAnswer}
 use Rattle.egraph.specs.declared.UnionAnswer.the-variants.{UnionNo, UnionNot, UnionYes}
 use Rattle.holds.specs.Holds.{Holds, HoldsAt}
-use Rattle.holds.specs.HoldsLaws.{holds-in, holds-written}
+use Rattle.holds.specs.HoldsLaws.{holds-in}
 use Rattle.layout.specs.Head.{HeadIs}
 use Rattle.layout.specs.View.{View, hd, view}
 use Rattle.layout.specs.Written.{Noted, written}
 use Rattle.layout.specs.declared.Head.{Head}
-use Rattle.uniting.specs.Says.{NearIds, UniteSays, told}
+use Rattle.uniting.specs.Near.{NearIds}
+use Rattle.uniting.specs.Says.{UniteSays, told}
 use Rattle.uniting.specs.declared.United.{United}
 use Rattle.uniting.specs.declared.United.the-variants.{UnitedBroken, UnitedNo, UnitedYes}
 
@@ -67,10 +68,7 @@ module _ (ws : List ℕ) (h : Head) (q : HeadIs (length ws) (hd ws) h) (i j : �
     rest2 = past-rest ws h q ws2 (ap (λ (v : View). v .rest) (N .else (h .n) (h .m)) ∙ U .inside .rest)
 
     held : (g : Graph) → HoldsAt k (h .places) (view (h .n) (h .m) ws1) g → Holds ws2 g
-    held g H =
-        let at-n = subst (λ (a : ℕ). HoldsAt k (h .places) (view a (h .m) ws1) g) (sym (N2 .near .n-is)) H in
-        let at-m = subst (λ (a : ℕ). HoldsAt k (h .places) (view (k .n) a ws1) g) (sym (N2 .near .m-is)) at-n in
-        holds-written ws1 ws2 k g (ok-still (N2 .near) (U .inside .size)) N (subst (λ (a : ℕ). HoldsAt k a (view (k .n) (k .m) ws1) g) (sym (N2 .places-is)) at-m)
+    held g H = written-back ws ws1 ws2 h k (U .inside .size) N2 N g H
 
     pub union-yes : u ≡ UnitedYes k → UnionOpen ws i j UnionYes ws2
     union-yes e = record {

@@ -30,7 +30,7 @@ pub enum FindAnswer {
 }
 
 pub enum CountAnswer {
-    CountIs(u32),
+    CountIs(usize),
     CountNot(Refusal),
 }
 
@@ -106,3 +106,7 @@ pub mod adds;
 pub use adds::add;
 pub use adds::add_uncanonical;
 pub use adds::lookup;
+
+pub mod rebuilds;
+
+pub use rebuilds::rebuild;

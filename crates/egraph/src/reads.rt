@@ -46,7 +46,7 @@ pub fn number_of_classes(ws: &[u32]) -> CountAnswer
         layout::HeadRead::HeadBad => CountAnswer::CountNot(Refusal::BadHead),
         layout::HeadRead::HeadGood(h) => {
             let classes = h.classes;
-            CountAnswer::CountIs(classes as u32)
+            CountAnswer::CountIs(classes)
         }
     }
 }

@@ -46,6 +46,10 @@ pub record HoldsAt (h : Head) (u : ℕ) (v : View) (g : Graph) : Type 0 where
   pub tidy-lists : g .clean ≡ true → (r : ℕ) → map (key-of g) (row (members .lists) r) ≡ class-nodes g r
   pub scratch : v .scratch ≡ replicate (6 * h .n) 0
 
+-- the key of each id, as the words have it, is its node with root children
+abbrev pub UpToDate : {h : Head} {u : ℕ} {v : View} {g : Graph} → HoldsAt h u v g → Type 0
+UpToDate {g = g} H = (i : ℕ) → i < ids g → term-at (H .nodes .keys) i ≡ key-of g i
+
 -- the words ws hold the graph g
 pub record Holds (ws : List ℕ) (g : Graph) : Type 0 where
   pub good : GoodHead (length ws) (hd ws)

@@ -7,6 +7,7 @@ pub mod Nodes
 pub mod NodesPut
 pub mod NodesLaws
 pub mod NodesRekey
+pub mod NodesRechild
 pub mod Holds
 pub mod Inside
 pub mod HoldsLaws

@@ -20,7 +20,8 @@ use Rattle.taking.specs.declared.Closed.{Closed}
 use Rattle.taking.specs.declared.Closed.the-variants.{ClosedBroken, ClosedNo, ClosedYes}
 use Rattle.taking.specs.declared.Rekeyed.{Rekeyed}
 use Rattle.taking.specs.declared.Rekeyed.the-variants.{RekeyedBroken, RekeyedFrom, RekeyedNew}
-use Rattle.uniting.specs.Says.{NearIds, UniteSays, told}
+use Rattle.uniting.specs.Near.{NearIds}
+use Rattle.uniting.specs.Says.{UniteSays, told}
 use Rattle.uniting.specs.declared.United.{United}
 use Rattle.uniting.specs.declared.United.the-variants.{UnitedBroken, UnitedNo, UnitedYes}
 

@@ -18,12 +18,12 @@ use Rattle.holds.specs.Inside.{Inside, inside-same, inside-then}
 use Rattle.layout.specs.Head.{HeadOk}
 use Rattle.layout.specs.View.{View, view}
 use Rattle.layout.specs.declared.Head.{Head}
-use Rattle.taking.specs.Entry.{EntrySays, Open, inside-near, near-then, view-near}
+use Rattle.taking.specs.Entry.{EntrySays, Open}
 use Rattle.taking.specs.declared.Drained.{Drained}
 use Rattle.taking.specs.declared.Drained.the-variants.{DrainedBroken, DrainedTo}
 use Rattle.taking.specs.declared.Entry.{Entry}
 use Rattle.taking.specs.declared.Entry.the-variants.{EntryBroken, EntryNone, EntryOne}
-use Rattle.uniting.specs.Says.{NearIds}
+use Rattle.uniting.specs.Near.{NearIds, inside-near, near-then, view-near}
 
 -- a graph that a rebuild may start from: unclean, or with nothing pending
 pub record Startable (us : List (ℕ × ℕ)) (g : Graph) : Type 0 where
@@ -32,11 +32,12 @@ pub record Startable (us : List (ℕ × ℕ)) (g : Graph) : Type 0 where
   pub soft : (g .clean ≡ false) ⊎ (g .pending ≡ [])
 
 -- the graph that is left, with nothing pending: z is the rebuilt graph, once it is marked clean
-pub record Emptied (u : ℕ) (z : Graph) (y t : ℕ) (v : View) (r : Drained) : Type 0 where
+pub record Emptied (us : List (ℕ × ℕ)) (u : ℕ) (z : Graph) (y t : ℕ) (v : View) (r : Drained) : Type 0 where
   pub head : Head
   pub answer : r ≡ DrainedTo head y t
   pub graph : Graph
   pub rebuilt : z ≡ marked graph true
+  pub start : Startable us graph
   pub empty : graph .pending ≡ []
   pub holds : HoldsAt head u v graph
 
@@ -44,7 +45,7 @@ pub record DrainSays (h : Head) (fuel : ℕ) (ws : List ℕ) (r : Drained) (ws�
   pub inside : Inside (h .n) (h .m) ws ws′
   pub range : (k : Head) (y t : ℕ) → r ≡ DrainedTo k y t → NearIds (length ws) h k
   pub sound : (g : Graph) (u : ℕ) (us : List (ℕ × ℕ)) → HoldsAt h u (view (h .n) (h .m) ws) g → Startable us g
-      → (y t : ℕ) (z : Graph) → Rebuild g y t z → t < fuel → Emptied u z y t (view (h .n) (h .m) ws′) r
+      → (y t : ℕ) (z : Graph) → Rebuild g y t z → t < fuel → Emptied us u z y t (view (h .n) (h .m) ws′) r
 
 -- ---- the invariant
 
@@ -130,7 +131,7 @@ module _ (h : Head) (fuel : ℕ) (ws₀ : List ℕ) (k : Head) (ws : List ℕ) (
           let a = at-end us u (p .graph) z (p .yes-left) (p .left) (p .holds) (p .start) (p .rest) e in
           let ey : yes ≡ y = omega (arith, p .yes-is, a .0) in
           let et : taken ≡ t = omega (arith, p .taken-is, a .1) in
-          record { head = k; answer = λ i. DrainedTo k (ey i) (et i); graph = p .graph; rebuilt = a .2; empty = a .3; holds = a .4 };
+          record { head = k; answer = λ i. DrainedTo k (ey i) (et i); graph = p .graph; rebuilt = a .2; start = p .start; empty = a .3; holds = a .4 };
     }
 
     -- never broken on words that hold a graph

@@ -23,7 +23,7 @@ use Rattle.taking.specs.Drain.{DrainSays, Emptied, Startable}
 use Rattle.taking.specs.Places.{parents-pending, parents-size}
 use Rattle.taking.specs.declared.Drained.{Drained}
 use Rattle.taking.specs.declared.Drained.the-variants.{DrainedTo}
-use Rattle.uniting.specs.Says.{NearIds}
+use Rattle.uniting.specs.Near.{NearIds}
 
 -- an entry of pending stands for as many ids as there are places, or for one; and each merge pushes no more than all places
 abbrev pub enough : Head → ℕ
@@ -58,29 +58,31 @@ measure-low {h} {u} {v} {g} H =
 -- ---- what `drain` promises
 
 -- the graph g is rebuilt, but for the mark
-pub record Rebuilds (u : ℕ) (g : Graph) (v : View) (r : Drained) : Type 0 where
+pub record Rebuilds (us : List (ℕ × ℕ)) (u : ℕ) (g : Graph) (v : View) (r : Drained) : Type 0 where
   pub head : Head
   pub yeses : ℕ
   pub entries : ℕ
   pub answer : r ≡ DrainedTo head yeses entries
   pub graph : Graph
   pub rebuild : Rebuild g yeses entries (marked graph true)
+  pub start : Startable us graph
   pub empty : graph .pending ≡ []
   pub holds : HoldsAt head u v graph
 
 pub record DrainsAll (h : Head) (ws : List ℕ) (r : Drained) (ws′ : List ℕ) : Type 0 where
   pub inside : Inside (h .n) (h .m) ws ws′
   pub range : (k : Head) (y t : ℕ) → r ≡ DrainedTo k y t → NearIds (length ws) h k
-  pub sound : (g : Graph) (u : ℕ) (us : List (ℕ × ℕ)) → HoldsAt h u (view (h .n) (h .m) ws) g → Startable us g → Rebuilds u g (view (h .n) (h .m) ws′) r
+  pub sound : (g : Graph) (u : ℕ) (us : List (ℕ × ℕ)) → HoldsAt h u (view (h .n) (h .m) ws) g → Startable us g → Rebuilds us u g (view (h .n) (h .m) ws′) r
 
-rebuilds : {u : ℕ} {g z : Graph} {y t : ℕ} {v : View} {r : Drained} → Rebuild g y t z → Emptied u z y t v r → Rebuilds u g v r
-rebuilds {u} {g} {z} {y} {t} {v} {r} R E = record {
+rebuilds : {us : List (ℕ × ℕ)} {u : ℕ} {g z : Graph} {y t : ℕ} {v : View} {r : Drained} → Rebuild g y t z → Emptied us u z y t v r → Rebuilds us u g v r
+rebuilds {us} {u} {g} {z} {y} {t} {v} {r} R E = record {
   head = E .head;
   yeses = y;
   entries = t;
   answer = E .answer;
   graph = E .graph;
   rebuild = subst (λ (x : Graph). Rebuild g y t x) (E .rebuilt) R;
+  start = E .start;
   empty = E .empty;
   holds = E .holds;
 }

@@ -26,7 +26,7 @@ use Rattle.taking.specs.declared.Entry.{Entry}
 use Rattle.taking.specs.declared.Entry.the-variants.{EntryBroken, EntryNone, EntryOne}
 use Rattle.taking.specs.declared.Taken.{Taken}
 use Rattle.taking.specs.declared.Taken.the-variants.{TakenBroken, TakenId, TakenNone}
-use Rattle.uniting.specs.Says.{NearIds}
+use Rattle.uniting.specs.Near.{NearIds, inside-near, near-then, view-near}
 
 -- what a rebuild keeps: the invariant of closure, a table that leads from a live key to an id that has it, and an unclean graph
 pub record Open (us : List (ℕ × ℕ)) (g : Graph) : Type 0 where
@@ -40,21 +40,6 @@ pub record EntrySays (h : Head) (ws : List ℕ) (r : Entry) (ws′ : List ℕ) :
   pub none : (g : Graph) (u : ℕ) → HoldsAt h u (view (h .n) (h .m) ws) g → g .pending ≡ [] → (r ≡ EntryNone) × (ws′ ≡ ws)
   pub some : (g : Graph) (u : ℕ) (us : List (ℕ × ℕ)) → HoldsAt h u (view (h .n) (h .m) ws) g → Open us g → g .pending ≢ []
       → (s : Head) × (r ≡ EntryOne s (count (step g (g .pending) .answer))) × HoldsAt s u (view (h .n) (h .m) ws′) (step g (g .pending) .graph)
-
--- ---- numbers that are near
-
-pub view-near : {len : ℕ} {h k : Head} → NearIds len h k → (ws : List ℕ) → view (k .n) (k .m) ws ≡ view (h .n) (h .m) ws
-view-near N ws = λ i. view (N .near .n-is i) (N .near .m-is i) ws
-
-pub inside-near : {len : ℕ} {h k : Head} {ws ws′ : List ℕ} → NearIds len h k → Inside (k .n) (k .m) ws ws′ → Inside (h .n) (h .m) ws ws′
-inside-near {len} {h} {k} {ws} {ws′} N I = subst (λ (n : ℕ). Inside n (h .m) ws ws′) (N .near .n-is) (subst (λ (m : ℕ). Inside (k .n) m ws ws′) (N .near .m-is) I)
-
-pub near-then : {len : ℕ} {h k s : Head} → NearIds len h k → NearIds len k s → NearIds len h s
-near-then N M = record {
-  near = record { ok = M .near .ok; n-is = M .near .n-is ∙ N .near .n-is; m-is = M .near .m-is ∙ N .near .m-is };
-  ids-is = M .ids-is ∙ N .ids-is;
-  places-is = M .places-is ∙ N .places-is;
-}
 
 -- ---- the answers
 

@@ -25,7 +25,7 @@ use Rattle.pending.specs.declared.OnTop.{OnTop}
 use Rattle.pending.specs.declared.OnTop.the-variants.{TopMany, TopOne}
 use Rattle.taking.specs.declared.Taken.{Taken}
 use Rattle.taking.specs.declared.Taken.the-variants.{TakenBroken, TakenId, TakenNone}
-use Rattle.uniting.specs.Says.{NearIds}
+use Rattle.uniting.specs.Near.{NearIds}
 
 -- the numbers with the depth d of pending
 abbrev pub at-depth : Head → ℕ → Head

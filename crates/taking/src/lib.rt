@@ -144,7 +144,7 @@ fn known(node: Node, ids: usize) -> bool
 }
 
 // The key of an id: its node as it was given, with root children.
-fn fresh_key(ws: &[u32], h: Head, id: usize) -> Rooted
+pub fn fresh_key(ws: &[u32], h: Head, id: usize) -> Rooted
     requires { ⌜ HeadOk (length (now ws)) h ⌝ }
     requires { ⌜ id < h .ids ⌝ }
     ensures { λ r. ⌜ FreshSays h id (now (ws .entry)) r ⌝ }
@@ -195,7 +195,7 @@ fn oust(ws: &mut [u32], h: Head, key: Node) -> Rekeyed
 }
 
 // An id leaves the table, where it stands under the key that was set last, if it is there.
-fn vacate(ws: &mut [u32], h: Head, id: usize) -> Change
+pub fn vacate(ws: &mut [u32], h: Head, id: usize) -> Change
     requires { ⌜ HeadOk (length (now ws)) h ⌝ }
     requires { ⌜ id < h .ids ⌝ }
     ensures { λ r. ⌜ VacateSays h id (now (ws .entry)) r (now (ws .exit)) ⌝ }

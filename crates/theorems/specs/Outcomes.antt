@@ -15,13 +15,16 @@ use Rattle.language.specs.Struct.{nodeOf}
 use Rattle.language.specs.Term.{Term, places}
 use Rattle.language.specs.declared.Node.{Node}
 use Rattle.steps.specs.Classes.{nodes}
+use Rattle.steps.specs.Forced.{Made}
 use Rattle.steps.specs.Graph.{Graph}
 use Rattle.steps.specs.Machine.{fresh}
+use Rattle.closure.specs.Ends.{ends}
 use Rattle.adding.specs.Says.{Full, Room, kept-for}
 use Rattle.egraph.specs.Adds.{Adding, AddingSays, LookupSays, NodeLadder}
 use Rattle.egraph.specs.Answers.{Answer, Else, Lists, SameLimits, Unless-3, add-says, count-says, find-says, flag-says, head-of, limits-stay, list-says, lookup-says, no-by, node-says, setup-says, union-says, yes-with}
 use Rattle.egraph.specs.Listing.{NodeSays, NodesSays}
 use Rattle.egraph.specs.Reads.{CleanSays, CountSays, EmptySays, FindSays}
+use Rattle.egraph.specs.Rebuilds.{RebuildSays}
 use Rattle.egraph.specs.Setup.{Limits, SetupSays}
 use Rattle.egraph.specs.Unions.{UnionSays}
 use Rattle.egraph.specs.declared.AddAnswer.{AddAnswer}
@@ -179,3 +182,10 @@ module _ (ws : List ℕ) (g : Graph) (H : Holds ws g) where
       far (inr a) b = inl (inl a)
       far (inl a) (inr b) = inl (inr b)
       far (inl a) (inl b) = inr (a, b)
+
+  -- ---- rebuild, of a graph that calls made
+
+  pub rebuild-one : (us : List (ℕ × ℕ)) → Made us g → (r r′ : CountAnswer) (ws1 ws1′ : List ℕ) → RebuildSays ws r ws1 → RebuildSays ws r′ ws1′ → One (count-says r) (count-says r′) ws1 ws1′
+  rebuild-one us M r r′ ws1 ws1′ s t =
+      let E = ends M in
+      open-both s t (λ p q. answered ws (p .limits) (q .limits) (p .sound g us H M (E .0) (E .1) (E .2) (E .3)) (q .sound g us H M (E .0) (E .1) (E .2) (E .3)))

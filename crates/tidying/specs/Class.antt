@@ -19,7 +19,7 @@ use Rattle.closure.specs.Listed.{nodes-ascending}
 use Rattle.cells.specs.Free.{free-emptied}
 use Rattle.cells.specs.Pool.{Free, Pool, emptyL, row}
 use Rattle.cells.specs.Rows.{fits}
-use Rattle.holds.specs.Holds.{HoldsAt}
+use Rattle.holds.specs.Holds.{HoldsAt, UpToDate}
 use Rattle.holds.specs.Members.{Members}
 use Rattle.holds.specs.MembersLaws.{members-set, members-sorted}
 use Rattle.layout.specs.Cut.{members, sorting}
@@ -32,7 +32,7 @@ use Rattle.sorting.specs.Promise.{Sorts}
 use Rattle.sorting.specs.declared.Sorted.{Sorted}
 use Rattle.sorting.specs.declared.Sorted.the-variants.{SortedTo}
 use Rattle.tidying.specs.Refill.{Fresh, fill}
-use Rattle.tidying.specs.Says.{ClassTidied, UpToDate}
+use Rattle.tidying.specs.Says.{ClassTidied}
 
 -- sorted, the keys of a list are the nodes of its class
 pub class-sorted : (g : Graph) (n N : ℕ) (ms : List ℕ) (M : Members n N ms (g .nodes) (g .roots)) → N ≡ ids g → (a : ℕ)

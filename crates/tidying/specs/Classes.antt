@@ -19,14 +19,14 @@ use Rattle.steps.specs.Machine.{marked}
 use Rattle.cells.specs.Pool.{row}
 use Rattle.cells.specs.declared.Change.{Change}
 use Rattle.cells.specs.declared.Change.the-variants.{ChangeBroken}
-use Rattle.holds.specs.Holds.{HoldsAt}
+use Rattle.holds.specs.Holds.{HoldsAt, UpToDate}
 use Rattle.holds.specs.Inside.{Inside, Near, inside-same, inside-then}
 use Rattle.holds.specs.declared.Stepped.the-variants.{SteppedBroken, SteppedTo}
 use Rattle.layout.specs.Head.{HeadOk}
 use Rattle.layout.specs.View.{View, view}
 use Rattle.layout.specs.declared.Head.{Head}
 use Rattle.tidying.specs.Class.{class-sorted}
-use Rattle.tidying.specs.Says.{ClassTidied, Tidies, TidiesClass, UpToDate, cleaned}
+use Rattle.tidying.specs.Says.{ClassTidied, Tidies, TidiesClass, cleaned}
 use Rattle.unionfind.specs.Forest.{root-low}
 
 -- the lists below i are tidy

@@ -12,7 +12,7 @@ use Rattle.cells.specs.Pool.{emptyL, row}
 use Rattle.cells.specs.Reading.{Word}
 use Rattle.cells.specs.declared.Change.{Change}
 use Rattle.cells.specs.declared.Change.the-variants.{ChangeBroken, ChangeDone}
-use Rattle.holds.specs.Holds.{HoldsAt}
+use Rattle.holds.specs.Holds.{HoldsAt, UpToDate}
 use Rattle.holds.specs.Inside.{Inside, inside-lent, inside-same, inside-then}
 use Rattle.layout.specs.Both.{LentBoth, both-next}
 use Rattle.layout.specs.Cut.{members, need, sorting}
@@ -26,7 +26,7 @@ use Rattle.sorting.specs.declared.Sorted.the-variants.{SortedBroken, SortedTo}
 use Rattle.tidying.specs.Class.{class-few, class-length, class-short, class-sorts, class-tidied, left-fresh}
 use Rattle.tidying.specs.Copy.{Copies}
 use Rattle.tidying.specs.Refill.{Refills}
-use Rattle.tidying.specs.Says.{ClassTidied, TidiesClass, UpToDate}
+use Rattle.tidying.specs.Says.{ClassTidied, TidiesClass}
 
 module _ (h : Head) (a : ℕ) (ws : List ℕ) (ok : HeadOk (length ws) h) (ha : a < h .n) (k : ℕ) (W : Word (view (h .n) (h .m) ws .members) (a + h .n + h .n) k) where
   pub class-long : h .n < k → TidiesClass h a ws ChangeBroken ws

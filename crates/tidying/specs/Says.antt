@@ -4,24 +4,19 @@
 use mathlib.Core.Bool.{true}
 use mathlib.Core.List.{List, map}
 use mathlib.Core.Path.{_≡_}
-use Prim.Native.Nat.{_<_, ℕ}
+use Prim.Native.Nat.{ℕ}
 use lib.ListN.{length, set}
-use Rattle.language.specs.Term.{term-at}
 use Rattle.steps.specs.Classes.{class-nodes}
-use Rattle.steps.specs.Graph.{Graph, ids, key-of}
+use Rattle.steps.specs.Graph.{Graph, key-of}
 use Rattle.steps.specs.Machine.{marked}
 use Rattle.cells.specs.declared.Change.{Change}
 use Rattle.cells.specs.declared.Change.the-variants.{ChangeDone}
-use Rattle.holds.specs.Holds.{HoldsAt}
+use Rattle.holds.specs.Holds.{HoldsAt, UpToDate}
 use Rattle.holds.specs.Inside.{Inside, Near}
 use Rattle.holds.specs.declared.Stepped.{Stepped}
 use Rattle.holds.specs.declared.Stepped.the-variants.{SteppedTo}
 use Rattle.layout.specs.View.{View, view}
 use Rattle.layout.specs.declared.Head.{Head}
-
--- the key of each id, as the words have it, is its node with root children
-abbrev pub UpToDate : {h : Head} {u : ℕ} {v : View} {g : Graph} → HoldsAt h u v g → Type 0
-UpToDate {g = g} H = (i : ℕ) → i < ids g → term-at (H .nodes .keys) i ≡ key-of g i
 
 -- the words hold the graph as before, but list a: it has the ids of the class's nodes
 pub record ClassTidied {h : Head} {u : ℕ} {v : View} {g : Graph} (H : HoldsAt h u v g) (a : ℕ) (v′ : View) : Type 0 where

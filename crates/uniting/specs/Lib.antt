@@ -1,3 +1,4 @@
+pub mod Near
 pub mod Says
 pub mod Merge
 pub mod Merging

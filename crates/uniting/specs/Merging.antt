@@ -23,7 +23,8 @@ use Rattle.layout.specs.declared.Head.{Head}
 use Rattle.pending.specs.Promise.{PushesStretch}
 use Rattle.unionfind.specs.Promise.{Unites}
 use Rattle.uniting.specs.Merge.{holds-merge, merge-room}
-use Rattle.uniting.specs.Says.{MergeSays, NearIds, merged-numbers}
+use Rattle.uniting.specs.Near.{NearIds}
+use Rattle.uniting.specs.Says.{MergeSays, merged-numbers}
 
 never : {A : Type 0} (k : Head) → SteppedBroken ≡ SteppedTo k → A
 never k e = let z : _≡_ {A = ℕ} 0 1 = cc in absurd (omega arith)

@@ -9,19 +9,14 @@ use lib.ListN.{length}
 use Rattle.steps.specs.Graph.{Graph, root, uses}
 use Rattle.steps.specs.Machine.{merge, union, union-by}
 use Rattle.holds.specs.Holds.{HoldsAt}
-use Rattle.holds.specs.Inside.{Inside, Near}
+use Rattle.holds.specs.Inside.{Inside}
 use Rattle.holds.specs.declared.Stepped.{Stepped}
 use Rattle.holds.specs.declared.Stepped.the-variants.{SteppedTo}
 use Rattle.layout.specs.View.{view}
 use Rattle.layout.specs.declared.Head.{Head}
+use Rattle.uniting.specs.Near.{NearIds}
 use Rattle.uniting.specs.declared.United.{United}
 use Rattle.uniting.specs.declared.United.the-variants.{UnitedNo, UnitedYes}
-
--- k has the limits, the ids and the places of h, and numbers in range
-pub record NearIds (len : ℕ) (h k : Head) : Type 0 where
-  pub near : Near len h k
-  pub ids-is : k .ids ≡ h .ids
-  pub places-is : k .places ≡ h .places
 
 -- one class less, unclean, and the depth of pending d
 abbrev pub merged-numbers : Head → ℕ → Head

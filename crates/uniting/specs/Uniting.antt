@@ -24,7 +24,8 @@ use Rattle.unionfind.specs.Forest.{root-root}
 use Rattle.unionfind.specs.Promise.{FindsMut}
 use Rattle.unionfind.specs.declared.Found.{Found}
 use Rattle.unionfind.specs.declared.Found.the-variants.{FoundLost, FoundRoot}
-use Rattle.uniting.specs.Says.{JoinSays, NearIds, UniteSays, told}
+use Rattle.uniting.specs.Near.{NearIds}
+use Rattle.uniting.specs.Says.{JoinSays, UniteSays, told}
 use Rattle.uniting.specs.declared.United.the-variants.{UnitedBroken, UnitedNo, UnitedYes}
 
 -- ---- the machine's union, by its two tests

@@ -1,14 +1,9 @@
 use mathlib.Core.Path.{refl}
-use native.Mathlib.Omega.{arith}
-use Rattle.layout.specs.Head.{head-is}
 use Rattle.egraph.specs.Answers.{shut, opened}
 use Rattle.egraph.specs.Reads.{count-open}
 use borrow.Author.Needs.{needs}
 use Rattle.egraph.proofs.reads.number_of_classes.Statement.{statement}
 use Rattle.egraph.proofs.reads.number_of_classes.Tie as tie
-
-cast-t7 : tie.Need-cast-t7
-cast-t7 c = let p = head-is _ _ _ _ (c .before .before .before .read-head .ensures) (c .before .h .given .1) in let o = p .ok in omega arith
 
 returns : tie.Need-returns
 returns c = shut _ _ (c .before .before .read-head .ensures) (c .enum-told .given .1) refl
@@ -22,6 +17,5 @@ number-of-classes-spec =
     (λ c κs. search needs)
     (λ c. search needs)
     (λ c. search needs)
-    cast-t7
     returns
     returns-2)

@@ -1,0 +1,2 @@
+pub mod Rechild
+pub mod All
