@@ -1,0 +1,18 @@
+use Rattle.script.specs.Puts.{wrote-join}
+use borrow.Author.Needs.{needs}
+use Rattle.script.proofs.replies.put_one.Statement.{statement}
+use Rattle.script.proofs.replies.put_one.Tie as tie
+
+returns : tie.Need-returns
+returns c = wrote-join (wrote-join (c .before .before .before .before .before .before .before .before .before .before .before .put .ensures) (c .before .before .before .before .before .before .before .put-word .ensures .0)) (c .before .before .put2 .ensures)
+
+pub put-one-spec : {M : Type 1} → statement M
+put-one-spec =
+    tie.close
+    (tie.spec
+    (λ c κs. search needs)
+    (λ c κs. search needs)
+    (λ c. search needs)
+    (λ c κs. search needs)
+    (λ c. search needs)
+    returns)

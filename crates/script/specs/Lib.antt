@@ -1,0 +1,12 @@
+pub mod Decimal
+pub mod DecimalLaws
+pub mod Fields
+pub mod FieldsLaws
+pub mod Verbs
+pub mod Line
+pub mod LineLaws
+pub mod Reply
+pub mod Puts
+pub mod Examples
+pub mod Gathered
+pub mod Counts

@@ -1,0 +1,181 @@
+-- The laws behind `parse`: names compared, the numbers behind a verb, and what a line says whose verb and numbers are known.
+-- Assumes nothing.
+use mathlib.Core.Path.{_≡_, refl, _∙_}
+use mathlib.Core.List.{List, [], _∷_}
+use mathlib.Core.Bool.{Bool, true, false, _&&_, cond}
+use mathlib.Core.Logic.{_⊎_, inl, inr}
+use Prim.Native.Nat.{ℕ, _+_, _-_, _≤_, _<_}
+use native.Mathlib.Decide.{decLt}
+use native.Mathlib.Omega.{arith}
+use lib.Dec.{leb, eqb, lit≤}
+use lib.ListN.{length, getD, take}
+use lib.Seq.{length-take-le}
+use borrow.Author.Tests.{eqb-true, eq-eqb, ne-eqb, lt-ltb, le-ltb, leb-true, le-leb, lt-leb}
+use Rattle.script.specs.Fields.{fieldsOf, Nums, nope, all, numbersOf, Sought, NumbersSay}
+use Rattle.script.specs.FieldsLaws.{rest, fields-cut, fields-last}
+use Rattle.script.specs.Verbs.{same, shape, Entry, chosen, changesTable, readsTable, countsTable, verbOf}
+use Rattle.script.specs.Line.{Line, Says, skip, bad, call, ofFields, lineOf}
+use Rattle.script.specs.declared.Call.{Call}
+use Rattle.script.specs.declared.Shape.{Shape}
+use Rattle.script.specs.declared.Verb.{Verb}
+use Rattle.script.specs.declared.Verb.the-variants.{VerbBad}
+
+-- ---- equal lists of bytes
+
+same-self : (s : List ℕ) → same s s ≡ true
+same-self [] = refl
+same-self (a ∷ s) = rw (eq-eqb a a refl) (same-self s)
+
+same-means : (s t : List ℕ) → same s t ≡ true → s ≡ t
+same-means [] [] h = refl
+same-means [] (b ∷ t) h = cc
+same-means (a ∷ s) [] h = cc
+same-means (a ∷ s) (b ∷ t) h = go (eqb a b) refl h (same-means s t)
+  where
+    go : (x : Bool) → eqb a b ≡ x → x && same s t ≡ true → (same s t ≡ true → s ≡ t) → a ∷ s ≡ b ∷ t
+    go true e h ih = let p : a ≡ b = eqb-true a b e in let q : s ≡ t = ih h in cc
+    go false e h ih = cc
+
+pub is-yes : {A : Type 0} (w n : List ℕ) (x y : A) → w ≡ n → x ≡ cond (same w n) x y
+is-yes w n x y e = rw (e, same-self n) refl
+
+pub is-no : {A : Type 0} (w n : List ℕ) (x y : A) → (w ≡ n → ⊥) → y ≡ cond (same w n) x y
+is-no w n x y h = go (same w n) refl
+  where
+    go : (b : Bool) → same w n ≡ b → y ≡ cond b x y
+    go true e = absurd (h (same-means w n e))
+    go false e = refl
+
+pub not-both : (b : Bool) → b ≡ true → b ≡ false → ⊥
+not-both b p q = let z : _≡_ {A = ℕ} 0 1 = cc in omega arith
+
+-- ---- a whole line
+
+pub args-none : (line : List ℕ) (e : ℕ) (vs : List ℕ) → Sought line 32 e → length line ≤ e → (fs : List (List ℕ)) → fieldsOf line ≡ take e line ∷ fs → NumbersSay fs 0 vs
+unfolding numbersOf
+args-none line e vs s l fs q =
+    let z : fs ≡ [] = cc (fields-last line e s l) in
+    record { good = λ _. (rw z refl, omega arith); many = λ h. absurd (omega arith) }
+
+pub args-some : (line : List ℕ) (e n : ℕ) (vs : List ℕ) → Sought line 32 e → e < length line → NumbersSay (fieldsOf (rest (e + 1) line)) n vs
+    → (fs : List (List ℕ)) → fieldsOf line ≡ take e line ∷ fs → NumbersSay fs n vs
+args-some line e n vs s l a fs q =
+    let z : fs ≡ fieldsOf (rest (e + 1) line) = cc (fields-cut line e s l) in
+    rw z a
+
+-- no verb takes more than 24 numbers
+abbrev few-all : List Entry → Bool
+few-all [] = true
+few-all (e ∷ es) = leb (e .is .most) 24 && few-all es
+
+few-chosen : (w : List ℕ) (es : List Entry) (o : Shape) → few-all es ≡ true → o .most ≤ 24 → chosen w es o .most ≤ 24
+few-chosen w [] o h k = k
+few-chosen w (e ∷ es) o h k = go (leb (e .is .most) 24) refl h (same w (e .name)) (λ g. few-chosen w es o g k)
+  where
+    go : (x : Bool) → leb (e .is .most) 24 ≡ x → x && few-all es ≡ true → (b : Bool) → (few-all es ≡ true → chosen w es o .most ≤ 24) → cond b (e .is) (chosen w es o) .most ≤ 24
+    go true q g true ih = leb-true (e .is .most) 24 q
+    go true q g false ih = ih g
+    go false q g b ih = absurd (not-both false g refl)
+
+few : (w : List ℕ) → verbOf w .most ≤ 24
+unfolding verbOf changesTable readsTable countsTable
+few w = few-chosen w changesTable _ refl (few-chosen w readsTable _ refl (few-chosen w countsTable (shape VerbBad 1 0) refl (lit≤ tt)))
+
+pub says-plain : (line : List ℕ) (r : Call) (v : Verb) → lineOf line ≡ record { verb = v; numbers = [] } → (r .verb ≡ v) × (r .count ≡ 0) → Says line r
+says-plain line r v e p = record { exact = rw (p .0, p .1) e; few = omega arith }
+
+pub line-none : (line : List ℕ) → length line ≡ 0 → lineOf line ≡ skip
+unfolding lineOf
+line-none [] h = refl
+line-none (b ∷ s) h = absurd (omega arith)
+
+pub line-long : (line : List ℕ) → 4096 < length line → lineOf line ≡ bad
+unfolding lineOf
+line-long [] l = absurd (omega arith)
+line-long (b ∷ s) l = rw (lt-ltb 4096 (length (b ∷ s)) l) refl
+
+pub line-note : (line : List ℕ) → 0 < length line → length line ≤ 4096 → getD line 0 0 ≡ 35 → lineOf line ≡ skip
+unfolding lineOf
+line-note [] l m h = absurd (omega arith)
+line-note (b ∷ s) l m h = rw (le-ltb 4096 (length (b ∷ s)) m, eq-eqb b 35 h) refl
+
+line-fields : (line : List ℕ) → 0 < length line → length line ≤ 4096 → (getD line 0 0 ≡ 35 → ⊥) → lineOf line ≡ ofFields (fieldsOf line)
+unfolding lineOf
+line-fields [] l m h = absurd (omega arith)
+line-fields (b ∷ s) l m h = rw (le-ltb 4096 (length (b ∷ s)) m, ne-eqb b 35 h) refl
+
+-- a line whose verb ends at e, with what its two parts say
+pub record Parts (line : List ℕ) (e : ℕ) (v : Shape) (n : ℕ) (vs : List ℕ) : Type 0 where
+  pub some : 0 < length line
+  pub short : length line ≤ 4096
+  pub first : getD line 0 0 ≡ 35 → ⊥
+  pub cut : Sought line 32 e
+  pub verb : v ≡ verbOf (take e line)
+  pub row : (fs : List (List ℕ)) → fieldsOf line ≡ take e line ∷ fs → NumbersSay fs n vs
+
+split : (line : List ℕ) (e : ℕ) (v : Shape) (n : ℕ) (vs : List ℕ) (P : Line → Type 0) → Parts line e v n vs
+    → ((fs : List (List ℕ)) → NumbersSay fs n vs → P (call v (numbersOf fs))) → P (lineOf line)
+split line e v n vs P p k = go (decLt e (length line))
+  where
+    use-it : (fs : List (List ℕ)) → fieldsOf line ≡ take e line ∷ fs → P (lineOf line)
+    use-it fs q =
+        let a : lineOf line ≡ call v (numbersOf fs) = line-fields line (p .some) (p .short) (p .first) ∙ rw (q, p .verb) refl in
+        rw a (k fs (p .row fs q))
+
+    go : Dec (e < length line) → P (lineOf line)
+    go (yes l) = use-it (fieldsOf (rest (e + 1) line)) (fields-cut line e (p .cut) l)
+    go (no l) = use-it [] (fields-last line e (p .cut) (omega arith))
+
+few-of : (line : List ℕ) (e : ℕ) (v : Shape) (n : ℕ) (vs : List ℕ) → Parts line e v n vs → v .most ≤ 24
+few-of line e v n vs p = rw (p .verb) (few (take e line))
+
+call-bad : (v : Shape) (ns : Nums) → ((ms : List ℕ) → ns ≡ all ms → (length ms < v .least) ⊎ (v .most < length ms)) → call v ns ≡ bad
+call-bad v nope h = refl
+call-bad v (all ms) h = go (h ms refl)
+  where
+    go : (length ms < v .least) ⊎ (v .most < length ms) → call v (all ms) ≡ bad
+    go (inl a) = rw (lt-leb (v .least) (length ms) a) refl
+    go (inr a) = by-two (leb (v .least) (length ms)) (lt-leb (length ms) (v .most) a)
+      where
+        by-two : (x : Bool) → leb (length ms) (v .most) ≡ false → cond (x && leb (length ms) (v .most)) (record { verb = v .verb; numbers = ms }) bad ≡ bad
+        by-two true q = rw q refl
+        by-two false q = refl
+
+-- how many there are is what was counted, or both are above 24
+counted : (fs : List (List ℕ)) (n : ℕ) (vs ms : List ℕ) → NumbersSay fs n vs → numbersOf fs ≡ all ms → (length ms ≡ n) ⊎ ((24 < n) × (24 < length ms))
+counted fs n vs ms s q = go (decLt 24 n)
+  where
+    go : Dec (24 < n) → (length ms ≡ n) ⊎ ((24 < n) × (24 < length ms))
+    go (yes l) = inr (l, s .many l ms q)
+    go (no l) =
+        let g = s .good (omega arith) in
+        let z : ms ≡ take n vs = cc (g .0, q) in
+        inl (rw z (length-take-le n vs (g .1)))
+
+pub line-low : (line : List ℕ) (e : ℕ) (v : Shape) (n : ℕ) (vs : List ℕ) → Parts line e v n vs → n < v .least → lineOf line ≡ bad
+line-low line e v n vs p l =
+    split line e v n vs (λ x. x ≡ bad) p (λ fs s. call-bad v (numbersOf fs) (λ ms q. go ms (counted fs n vs ms s q)))
+  where
+    go : (ms : List ℕ) → (length ms ≡ n) ⊎ ((24 < n) × (24 < length ms)) → (length ms < v .least) ⊎ (v .most < length ms)
+    go ms (inl a) = inl (omega arith)
+    go ms (inr a) = inr (omega (arith, few-of line e v n vs p, a .1))
+
+pub line-high : (line : List ℕ) (e : ℕ) (v : Shape) (n : ℕ) (vs : List ℕ) → Parts line e v n vs → v .most < n → lineOf line ≡ bad
+line-high line e v n vs p l =
+    split line e v n vs (λ x. x ≡ bad) p (λ fs s. call-bad v (numbersOf fs) (λ ms q. go ms (counted fs n vs ms s q)))
+  where
+    go : (ms : List ℕ) → (length ms ≡ n) ⊎ ((24 < n) × (24 < length ms)) → (length ms < v .least) ⊎ (v .most < length ms)
+    go ms (inl a) = inr (omega arith)
+    go ms (inr a) = inr (omega (arith, few-of line e v n vs p, a .1))
+
+pub line-call : (line : List ℕ) (e : ℕ) (v : Shape) (n : ℕ) (vs : List ℕ) → Parts line e v n vs → v .least ≤ n → n ≤ v .most
+    → Says line (record { verb = v .verb; count = n; numbers = vs })
+line-call line e v n vs p a b =
+    let m : n ≤ 24 = omega (arith, few-of line e v n vs p) in
+    record {
+      exact = split line e v n vs (λ x. x ≡ record { verb = v .verb; numbers = take n vs }) p (λ fs s. go fs (s .good m));
+      few = m;
+    }
+  where
+    go : (fs : List (List ℕ)) → (numbersOf fs ≡ all (take n vs)) × (n ≤ length vs) → call v (numbersOf fs) ≡ record { verb = v .verb; numbers = take n vs }
+    go fs g = rw (g .0, length-take-le n vs (g .1), le-leb (v .least) n a, le-leb n (v .most) b) refl

@@ -1,0 +1,229 @@
+#!/usr/bin/env python3
+"""A second reading of document 01, to hold the oracle against: the same script on standard input, the same answers.
+
+Written from the page's words alone, with plain lists; nothing here is taken from egg. Slow and short on purpose.
+"""
+import sys
+
+TOP = 2**64 - 1
+COUNTS = {"setup": (2, 2), "union": (2, 2), "add": (2, 24), "add_uncanonical": (2, 24), "lookup": (2, 24)}
+COUNTS.update((v, (1, 1)) for v in ("find", "classes_for_op", "id_to_node", "find_best_cost", "find_best"))
+COUNTS.update((v, (0, 0)) for v in ("rebuild", "classes", "nodes", "is_empty", "clean", "number_of_classes"))
+COUNTS["total_number_of_nodes"] = (0, 0)
+
+
+class Refused(Exception):
+    pass
+
+
+def need(n, m):
+    return 32 + 28 * n + 4 * m
+
+
+class Graph:
+    def __init__(self, n, m):
+        if not 1 <= n <= 65_536 or not 0 <= m <= 262_144:
+            raise Refused(1)
+        if need(n, m) > need(8_192, 32_768):
+            raise Refused(2)
+        self.n, self.m = n, m
+        self.stored = []  # the nodes as given: (operator, payload, children)
+        self.root = []  # of each id
+        self.parents = {}  # by root
+        self.table = {}
+        self.pending = []
+        self.is_clean = False
+
+    def known(self, *ids):
+        if any(i >= len(self.stored) for i in ids):
+            raise Refused(4)
+
+    def must_be_clean(self):
+        if not self.is_clean:
+            raise Refused(7)
+
+    def node(self, op, payload, kids):
+        if len(kids) > 8:
+            raise Refused(5)
+        self.known(*kids)
+        return op, payload, tuple(kids)
+
+    def key(self, node):
+        return node[0], node[1], tuple(self.root[k] for k in node[2])
+
+    def lookup(self, *node):
+        kept = self.table.get(self.key(self.node(node[0], node[1], node[2:])))
+        return "none" if kept is None else self.root[kept]
+
+    def add_uncanonical(self, *node):
+        node = self.node(node[0], node[1], node[2:])
+        key = self.key(node)
+        if key in self.table:
+            return self.table[key]
+        places = sum(len(x[2]) for x in self.stored)
+        if len(self.stored) == self.n or places + len(node[2]) > self.m:
+            raise Refused(6)
+        new = len(self.stored)
+        self.stored.append(node)
+        self.root.append(new)
+        self.parents[new] = []
+        for kid in node[2]:
+            self.parents[self.root[kid]].append(new)
+        self.pending.append(new)
+        self.table[key] = new
+        self.is_clean = False
+        return new
+
+    def add(self, *node):
+        return self.root[self.add_uncanonical(*node)]
+
+    def find(self, i):
+        self.known(i)
+        return self.root[i]
+
+    def union(self, a, b):
+        self.known(a, b)
+        self.is_clean = False
+        stay, lose = self.root[a], self.root[b]
+        if stay == lose:
+            return False
+        if len(self.parents[stay]) < len(self.parents[lose]):
+            stay, lose = lose, stay
+        self.pending += self.parents[lose]
+        self.parents[stay] += self.parents.pop(lose)
+        self.root = [stay if r == lose else r for r in self.root]
+        return True
+
+    def rebuild(self):
+        count = 0
+        while self.pending:
+            taken = self.pending.pop()
+            key = self.key(self.stored[taken])
+            before = self.table.get(key)
+            self.table[key] = taken
+            if before is not None and self.union(before, taken):
+                count += 1
+        self.is_clean = True
+        return count
+
+    def roots(self):
+        return sorted(set(self.root))
+
+    def class_nodes(self, root):
+        keys = {self.key(x) for i, x in enumerate(self.stored) if self.root[i] == root}
+        return sorted(keys, key=lambda x: (x[0], x[1], len(x[2]), x[2]))
+
+    def all_classes(self):
+        self.must_be_clean()
+        return {r: self.class_nodes(r) for r in self.roots()}
+
+    def classes(self):
+        return [w for r, xs in self.all_classes().items() for w in [r, len(xs)] + written(xs)]
+
+    def classes_for_op(self, op):
+        return [r for r, xs in self.all_classes().items() if any(x[0] == op for x in xs)]
+
+    def total_number_of_nodes(self):
+        return sum(len(xs) for xs in self.all_classes().values())
+
+    def nodes(self):
+        return written(self.stored)
+
+    def id_to_node(self, i):
+        self.known(i)
+        return written([self.stored[i]])
+
+    def is_empty(self):
+        return not self.stored
+
+    def clean(self):
+        return self.is_clean
+
+    def number_of_classes(self):
+        return len(self.roots())
+
+    def prices(self, i):
+        self.known(i)
+        classes = self.all_classes()
+        best = {}  # by root: price, node
+        changed = True
+        while changed:
+            changed = False
+            for root, nodes in classes.items():
+                proposed = None
+                for node in nodes:
+                    if all(kid in best for kid in node[2]):
+                        price = min(TOP, 1 + sum(best[kid][0] for kid in node[2]))
+                        if proposed is None or price < proposed[0]:
+                            proposed = price, node
+                if proposed and (root not in best or proposed[0] < best[root][0]):
+                    best[root] = proposed
+                    changed = True
+        return best
+
+    def find_best_cost(self, i):
+        return self.prices(i)[self.root[i]][0]
+
+    def find_best(self, i):
+        best, place, form = self.prices(i), {}, []
+
+        def visit(root):
+            if root not in place:
+                op, payload, kids = best[root][1]
+                for kid in kids:
+                    visit(kid)
+                place[root] = len(form)
+                form.append((op, payload, tuple(place[kid] for kid in kids)))
+
+        visit(self.root[i])
+        return [best[self.root[i]][0]] + written(form)
+
+
+def written(nodes):
+    return [w for op, payload, kids in nodes for w in (op, payload, len(kids), *kids)]
+
+
+def number(field):
+    if not field.isdigit() or not field.isascii() or (field[0:1] == b"0" and len(field) > 1) or int(field) >= 2**32:
+        raise ValueError
+    return int(field)
+
+
+def answer(state, line):
+    """The line that answers; none for what is passed over. state holds the graph, or nothing."""
+    if not line or (line[0:1] == b"#" and len(line) <= 4096):
+        return None
+    try:
+        verb, *fields = line.split(b" ")
+        verb, numbers = verb.decode("ascii"), [number(f) for f in fields]
+        least, most = COUNTS[verb]
+        if not least <= len(numbers) <= most or len(line) > 4096:
+            return "?"
+    except (ValueError, KeyError):
+        return "?"
+    try:
+        if verb == "setup":
+            state[:] = [Graph(*numbers)]
+            return "0"
+        if not state:
+            raise Refused(3)
+        got = getattr(state[0], verb)(*numbers)
+    except Refused as r:
+        return f"no {r}"
+    if isinstance(got, bool):
+        got = "yes" if got else "no"
+    return " ".join(["0"] + [str(w) for w in (got if isinstance(got, list) else [got])])
+
+
+def main():
+    sys.setrecursionlimit(100_000)
+    state = []
+    lines = sys.stdin.buffer.read().split(b"\n")
+    for line in lines:
+        told = answer(state, line)
+        if told is not None:
+            print(told)
+
+
+if __name__ == "__main__":
+    main()
