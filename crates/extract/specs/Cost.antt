@@ -10,11 +10,11 @@ use Prim.Native.Nat.{_*_, _<_, _≤_, ℕ}
 use native.Mathlib.Omega.{arith}
 use lib.ListN.{length, replicate}
 use Rattle.language.specs.declared.Id.{Id}
-use Rattle.steps.specs.Graph.{Graph, key-of, root}
+use Rattle.steps.specs.Graph.{Graph, root}
 use Rattle.cells.specs.declared.Change.{Change}
 use Rattle.cells.specs.declared.Change.the-variants.{ChangeBroken, ChangeDone}
 use Rattle.egraph.specs.Answers.{Answer, Else, SameLimits, Unless-3, find-says, head-of, ids-is, limits-stay, never, nine, no-by, number-of, past, past-rest, yes-with}
-use Rattle.egraph.specs.Reads.{FindOpen, FindSays}
+use Rattle.egraph.specs.Reads.{FindSays}
 use Rattle.egraph.specs.declared.FindAnswer.{FindAnswer}
 use Rattle.egraph.specs.declared.FindAnswer.the-variants.{FindNot, FindRoot}
 use Rattle.egraph.specs.declared.Refusal.{Refusal}
@@ -30,7 +30,7 @@ use Rattle.layout.specs.declared.Head.{Head}
 use Rattle.price.specs.Extract.{table}
 use Rattle.price.specs.Pass.{Best, look}
 use Rattle.price.specs.Size.{AstSize}
-use Rattle.pricing.specs.Classed.{Known, classed}
+use Rattle.pricing.specs.Classed.{KidsKnown, classed}
 use Rattle.pricing.specs.Costs.{FindsCosts}
 use Rattle.pricing.specs.Entries.{As, EntryAt, Prices, entry-as, prices-none}
 use Rattle.pricing.specs.Turn.{Scratched}
@@ -64,7 +64,7 @@ pub record CostOpen (ws : List ℕ) (i : ℕ) (r : CostAnswer) (ws′ : List ℕ
   pub rest : past ws ws′ ≡ past ws ws
   pub limits : SameLimits ws ws′
   pub fair : (k : ℕ) → cost-says r ≡ no-by k → k ≡ 9
-  pub sound : (g : Graph) → Holds ws g → Known g → (cost-says r ≡ price-says (cost-of g i)) × Holds ws′ g
+  pub sound : (g : Graph) → Holds ws g → KidsKnown g → (cost-says r ≡ price-says (cost-of g i)) × Holds ws′ g
 
 abbrev pub CostSays : List ℕ → ℕ → CostAnswer → List ℕ → Type 0
 CostSays ws i r ws′ =
@@ -79,7 +79,7 @@ CostSays ws i r ws′ =
 pub record WorksOut (h : Head) (i : ℕ) (ws : List ℕ) (r : CostAnswer) (ws′ : List ℕ) : Type 0 where
   pub only : Scratched (h .n) (h .m) ws ws′
   pub fair : (k : ℕ) → cost-says r ≡ no-by k → k ≡ 9
-  pub sound : (g : Graph) → Holds ws g → g .clean ≡ true → Known g → cost-says r ≡ price-says (cost-of g i)
+  pub sound : (g : Graph) → Holds ws g → g .clean ≡ true → KidsKnown g → cost-says r ≡ price-says (cost-of g i)
 
 module _ (h : Head) (i : ℕ) (ws : List ℕ) (q : HeadIs (length ws) (hd ws) h) (hi : i < h .ids) (f : FindAnswer) (F : FindSays ws i f) where
   -- what `find` answers on words that hold a graph
@@ -106,8 +106,8 @@ module _ (h : Head) (i : ℕ) (ws : List ℕ) (q : HeadIs (length ws) (hd ws) h)
 
     module _ (ws1 : List ℕ) (o : Change) (C : FindsCosts h ws o ws1) where
       -- what the passes leave on words that hold a graph
-      worked : (g : Graph) → Holds ws g → g .clean ≡ true → Known g → (o ≡ ChangeDone) × Prices (key-of g) (h .n) (view (h .n) (h .m) ws1 .scratch) (table AstSize g)
-      worked g H c K = let I = holds-in ws h g q H in C .law g (classed I c K) (rw (I .scratch) (prices-none (key-of g) (h .n) (6 * h .n)))
+      worked : (g : Graph) → Holds ws g → g .clean ≡ true → KidsKnown g → (o ≡ ChangeDone) × Prices g (h .n) (view (h .n) (h .m) ws1 .scratch) (table AstSize g)
+      worked g H c K = let I = holds-in ws h g q H in C .law g (classed I c K) (rw (I .scratch) (prices-none g (h .n) (6 * h .n)))
 
       pub work-broken : o ≡ ChangeBroken → WorksOut h i ws (CostNot BrokenWords) ws1
       work-broken b = record { only = C .only; fair = nine; sound = λ g H c K. absurd (apart (worked g H c K .0)) }
@@ -117,20 +117,20 @@ module _ (h : Head) (i : ℕ) (ws : List ℕ) (q : HeadIs (length ws) (hd ws) h)
 
       module _ (y : Entry) (lt : x .0 < h .n) (E : EntryAt (h .n) (view (h .n) (h .m) ws1 .scratch) (x .0) y) where
         -- the entry of the id's class
-        entry-is : (g : Graph) → Holds ws g → g .clean ≡ true → Known g → As (key-of g) (y .mark) (y .price) (cost-of g i)
-        entry-is g H c K = rw (← root-is g H) (entry-as (key-of g) (h .n) (view (h .n) (h .m) ws1 .scratch) (table AstSize g) (x .0) y (worked g H c K .1) lt E)
+        entry-is : (g : Graph) → Holds ws g → g .clean ≡ true → KidsKnown g → As g (y .mark) (y .price) (cost-of g i)
+        entry-is g H c K = rw (← root-is g H) (entry-as g (h .n) (view (h .n) (h .m) ws1 .scratch) (table AstSize g) (x .0) y (worked g H c K .1) lt E)
 
         pub work-none : y .mark ≡ 0 → WorksOut h i ws (CostNot BrokenWords) ws1
         work-none z = record { only = C .only; fair = nine; sound = λ g H c K. go g (cost-of g i) (entry-is g H c K) }
           where
-            go : (g : Graph) (o : Option (Best ℕ)) → As (key-of g) (y .mark) (y .price) o → _≡_ {A = Answer} (no-by 9) (price-says o)
+            go : (g : Graph) (o : Option (Best ℕ)) → As g (y .mark) (y .price) o → _≡_ {A = Answer} (no-by 9) (price-says o)
             go g none A = refl
             go g (some b) A = absurd (omega (arith, A .marked))
 
         pub work-done : y .mark ≢ 0 → WorksOut h i ws (CostIs (y .price)) ws1
         work-done n = record { only = C .only; fair = λ k p. absurd (never k (y .price) p); sound = λ g H c K. go g (cost-of g i) (entry-is g H c K) }
           where
-            go : (g : Graph) (o : Option (Best ℕ)) → As (key-of g) (y .mark) (y .price) o → _≡_ {A = Answer} (yes-with (y .price ∷ [])) (price-says o)
+            go : (g : Graph) (o : Option (Best ℕ)) → As g (y .mark) (y .price) o → _≡_ {A = Answer} (yes-with (y .price ∷ [])) (price-says o)
             go g none A = absurd (n A)
             go g (some b) A = ap (λ (p : ℕ). yes-with (p ∷ [])) (A .price-is)
 

@@ -3,9 +3,8 @@
 -- Assumes nothing.
 use mathlib.Core.Bool.{true}
 use mathlib.Core.List.{List, map}
-use mathlib.Core.Path.{_∙_, _≡_, ap, refl, subst, sym}
+use mathlib.Core.Path.{_≡_, subst, sym}
 use Prim.Native.Nat.{_<_, _≤_, ℕ}
-use native.Mathlib.Omega.{arith}
 use lib.ListN.{length, length-map}
 use Rattle.lists.specs.Members.{Mem, mem-at}
 use Rattle.lists.specs.Reads.{at, getD-map-lt}
@@ -27,8 +26,8 @@ use Rattle.unionfind.specs.Forest.{root-low}
 use Rattle.pricing.specs.Node.{KidsIn}
 
 -- every child of a stored node is an id: so it is in every graph that calls make
-abbrev pub Known : Graph → Type 0
-Known g = (i c : ℕ) → i < ids g → Mem c (node (g .nodes) i .kids) → c < ids g
+abbrev pub KidsKnown : Graph → Type 0
+KidsKnown g = (i c : ℕ) → i < ids g → Mem c (node (g .nodes) i .kids) → c < ids g
 
 pub record Classed (h : Head) (v : View) (g : Graph) : Type 0 where
   pub ids-are : h .ids ≡ ids g
@@ -47,7 +46,7 @@ pub record Classed (h : Head) (v : View) (g : Graph) : Type 0 where
   pub listed : (r : ℕ) (x : Term) → Mem x (class-nodes g r) → Mem r (class-roots g)
 
 -- words that hold a clean graph
-pub classed : {h : Head} {u : ℕ} {v : View} {g : Graph} → HoldsAt h u v g → g .clean ≡ true → Known g → Classed h v g
+pub classed : {h : Head} {u : ℕ} {v : View} {g : Graph} → HoldsAt h u v g → g .clean ≡ true → KidsKnown g → Classed h v g
 unfolding root
 classed {h} {u} {v} {g} H c K = record {
   ids-are = H .ids-are;

@@ -9,9 +9,8 @@ use native.Mathlib.Decide.{ℕ-discrete}
 use native.Mathlib.Omega.{arith}
 use lib.ListN.{length}
 use Rattle.lists.specs.Keeps.{length-filter, length-upto, upto}
-use Rattle.language.specs.Term.{Term}
 use Rattle.steps.specs.Classes.{class-nodes, class-roots}
-use Rattle.steps.specs.Graph.{Graph, ids, key-of, root}
+use Rattle.steps.specs.Graph.{Graph, ids, root}
 use Rattle.cells.specs.declared.Change.{Change}
 use Rattle.cells.specs.declared.Change.the-variants.{ChangeBroken, ChangeDone}
 use Rattle.eclass.specs.Checks.{Totals}
@@ -26,27 +25,27 @@ use Rattle.price.specs.Pass.{Passes as Run, Table, done, more, pass}
 use Rattle.price.specs.Size.{AstSize}
 use Rattle.pricing.specs.Classed.{Classed, classed-lent}
 use Rattle.pricing.specs.Entries.{Prices}
-use Rattle.pricing.specs.Pass.{Passes, took-count}
+use Rattle.pricing.specs.Pass.{Passes}
 use Rattle.pricing.specs.Turn.{Scratched, Took, scratched-then, taken-broken}
 use Rattle.pricing.specs.declared.Taken.{Taken}
 use Rattle.pricing.specs.declared.Taken.the-variants.{TakenBroken, TakenIs}
 
 pub record FindsCosts (h : Head) (ws : List ℕ) (r : Change) (ws′ : List ℕ) : Type 0 where
   pub only : Scratched (h .n) (h .m) ws ws′
-  pub law : (g : Graph) → Classed h (view (h .n) (h .m) ws) g → Prices (key-of g) (h .n) (view (h .n) (h .m) ws .scratch) []
-      → (r ≡ ChangeDone) × Prices (key-of g) (h .n) (view (h .n) (h .m) ws′ .scratch) (table AstSize g)
+  pub law : (g : Graph) → Classed h (view (h .n) (h .m) ws) g → Prices g (h .n) (view (h .n) (h .m) ws .scratch) []
+      → (r ≡ ChangeDone) × Prices g (h .n) (view (h .n) (h .m) ws′ .scratch) (table AstSize g)
 
 -- the scratch words ss hold a table from which the passes still run `left` times, i of them being done
 pub record On-way (g : Graph) (n i : ℕ) (ss : List ℕ) : Type 0 where
   pub now : Table ℕ
-  pub prices : Prices (key-of g) n ss now
+  pub prices : Prices g n ss now
   pub left : ℕ
   pub bound : left + i ≤ suc (ids g)
   pub run : Run AstSize (class-nodes g) (class-roots g) left now (table AstSize g)
 
 pub record Finding (h : Head) (i : ℕ) (ws ws′ : List ℕ) : Type 0 where
   pub only : Scratched (h .n) (h .m) ws ws′
-  pub law : (g : Graph) → Classed h (view (h .n) (h .m) ws) g → Prices (key-of g) (h .n) (view (h .n) (h .m) ws .scratch) []
+  pub law : (g : Graph) → Classed h (view (h .n) (h .m) ws) g → Prices g (h .n) (view (h .n) (h .m) ws .scratch) []
       → On-way g (h .n) i (view (h .n) (h .m) ws′ .scratch)
 
 module _ (h : Head) (ws : List ℕ) where
@@ -57,7 +56,7 @@ module _ (h : Head) (ws : List ℕ) where
   pub finding-start : Finding h 0 ws ws
   finding-start = record { only = lent-same ws tt; law = λ g C P. first g P (end-in-time AstSize (class-nodes g) (class-roots g) (C .listed)) }
     where
-      first : (g : Graph) → Prices (key-of g) (h .n) (view (h .n) (h .m) ws .scratch) []
+      first : (g : Graph) → Prices g (h .n) (view (h .n) (h .m) ws .scratch) []
           → (n : ℕ) × (n ≤ suc (length (class-roots g))) × Run AstSize (class-nodes g) (class-roots g) n [] (table AstSize g)
           → On-way g (h .n) 0 (view (h .n) (h .m) ws .scratch)
       first g P (n, le, R) = record {
@@ -98,7 +97,7 @@ module _ (h : Head) (ws : List ℕ) where
 
         last : (g : Graph) (W : On-way g (h .n) i (view (h .n) (h .m) ws1 .scratch))
             → Took g (h .n) (view (h .n) (h .m) ws2 .scratch) (W .now) (pass AstSize (class-nodes g) (class-roots g) (W .now)) r
-            → Prices (key-of g) (h .n) (view (h .n) (h .m) ws2 .scratch) (table AstSize g)
+            → Prices g (h .n) (view (h .n) (h .m) ws2 .scratch) (table AstSize g)
         last g W T =
             let c : T .count ≡ k = cc (e, T .is) in
             let s = same g (W .now) (omega (arith, T .grown)) (pass-grows AstSize (class-nodes g) (class-roots g) (W .now)) in

@@ -4,14 +4,14 @@
 use mathlib.Core.List.{List, [], _∷_}
 use mathlib.Core.Logic.{_≢_, _⊎_, inl, inr}
 use mathlib.Core.Option.{Option, none, some}
-use mathlib.Core.Path.{_∙_, _≡_, ap, refl, sym}
-use Prim.Native.Nat.{_*_, _+_, _/_, _%_, _<_, _^_, _≤_, suc, ℕ}
+use mathlib.Core.Path.{_∙_, _≡_, ap, refl}
+use Prim.Native.Nat.{_*_, _+_, _/_, _%_, _<_, _^_, suc, ℕ}
 use native.Mathlib.Omega.{arith}
 use lib.ListN.{length, replicate, set}
 use Rattle.lists.specs.Reads.{at, getD-copies}
 use Rattle.lists.specs.Stores.{puts, puts-hit, puts-miss}
 use Rattle.lists.specs.Tests.{eq-or}
-use Rattle.language.specs.Term.{Term}
+use Rattle.steps.specs.Graph.{Graph, ids, key-of}
 use Rattle.layout.specs.Cut.{scratch}
 use Rattle.layout.specs.Lent.{Lent, Stored, lent-twice}
 use Rattle.price.specs.Pass.{Best, Table, look}
@@ -22,23 +22,24 @@ use Rattle.pricing.specs.declared.Entry.{Entry}
 abbrev pub joined : ℕ → ℕ → ℕ
 joined low high = low + high * 4294967296
 
--- ---- what a mark and a price say, where `key i` is the key of id i
+-- ---- what a mark and a price say of a class of the graph g
 
--- the price b, earned by the key of an id
-pub record Names (key : ℕ → Term) (mark price : ℕ) (b : Best ℕ) : Type 0 where
+-- the price and the node of b, which is the key of an id
+pub record Names (g : Graph) (mark price : ℕ) (b : Best ℕ) : Type 0 where
   pub id : ℕ
   pub marked : mark ≡ suc id
+  pub known : id < ids g
   pub price-is : price ≡ b .price
   pub small : price < 2 ^ 64
-  pub node-is : key id ≡ b .node
+  pub node-is : key-of g id ≡ b .node
 
-abbrev pub As : (ℕ → Term) → ℕ → ℕ → Option (Best ℕ) → Type 0
-As key mark price none = mark ≡ 0
-As key mark price (some b) = Names key mark price b
+abbrev pub As : Graph → ℕ → ℕ → Option (Best ℕ) → Type 0
+As g mark price none = mark ≡ 0
+As g mark price (some b) = Names g mark price b
 
 -- the scratch words ss hold the table t, for the classes below n
-pub record Prices (key : ℕ → Term) (n : ℕ) (ss : List ℕ) (t : Table ℕ) : Type 0 where
-  pub each : (c : ℕ) → c < n → As key (at ss (2 * n + c)) (joined (at ss (2 * c)) (at ss (2 * c + 1))) (look c t)
+pub record Prices (g : Graph) (n : ℕ) (ss : List ℕ) (t : Table ℕ) : Type 0 where
+  pub each : (c : ℕ) → c < n → As g (at ss (2 * n + c)) (joined (at ss (2 * c)) (at ss (2 * c + 1))) (look c t)
 
 -- ---- an entry read, and an entry written
 
@@ -53,14 +54,14 @@ abbrev pub Keeps : ℕ → ℕ → Entry → List ℕ → List ℕ → Type 0
 Keeps n c e s s′ = s′ ≡ puts s (stores n c e)
 
 -- what is read is what the table says
-pub entry-as : (key : ℕ → Term) (n : ℕ) (ss : List ℕ) (t : Table ℕ) (c : ℕ) (e : Entry) → Prices key n ss t → c < n → EntryAt n ss c e → As key (e .mark) (e .price) (look c t)
-entry-as key n ss t c e P h E = rw (E .mark-is, E .price-is) (P .each c h)
+pub entry-as : (g : Graph) (n : ℕ) (ss : List ℕ) (t : Table ℕ) (c : ℕ) (e : Entry) → Prices g n ss t → c < n → EntryAt n ss c e → As g (e .mark) (e .price) (look c t)
+entry-as g n ss t c e P h E = rw (E .mark-is, E .price-is) (P .each c h)
 
 -- ---- the table at the start
 
-pub prices-none : (key : ℕ → Term) (n k : ℕ) → Prices key n (replicate k 0) []
+pub prices-none : (g : Graph) (n k : ℕ) → Prices g n (replicate k 0) []
 unfolding look
-prices-none key n k = record { each = λ c h. getD-copies k (2 * n + c) 0 }
+prices-none g n k = record { each = λ c h. getD-copies k (2 * n + c) 0 }
 
 -- ---- an entry more
 
@@ -68,8 +69,8 @@ prices-none key n k = record { each = λ c h. getD-copies k (2 * n + c) 0 }
 halves : (p : ℕ) → joined (p % 4294967296) (p / 4294967296) ≡ p
 halves p = omega arith
 
-module _ (key : ℕ → Term) (n : ℕ) (s s′ : List ℕ) (t : Table ℕ) (r : ℕ) (e : Entry) (b : Best ℕ) (P : Prices key n s t) (size : length s ≡ 6 * n) (hr : r < n)
-    (N : Names key (e .mark) (e .price) b) (K : Keeps n r e s s′) where
+module _ (g : Graph) (n : ℕ) (s s′ : List ℕ) (t : Table ℕ) (r : ℕ) (e : Entry) (b : Best ℕ) (P : Prices g n s t) (size : length s ≡ 6 * n) (hr : r < n)
+    (N : Names g (e .mark) (e .price) b) (K : Keeps n r e s s′) where
   low : at s′ (2 * r) ≡ e .price % 4294967296
   low = rw K (puts-hit (stores n r e) s 0 (omega arith) (omega arith) (omega arith))
 
@@ -84,10 +85,10 @@ module _ (key : ℕ → Term) (n : ℕ) (s s′ : List ℕ) (t : Table ℕ) (r :
   other c j h ne (inr (inl q)) = rw K (puts-miss (stores n r e) s j (omega arith))
   other c j h ne (inr (inr q)) = rw K (puts-miss (stores n r e) s j (omega arith))
 
-  pub prices-more : Prices key n s′ ((r, b) ∷ t)
+  pub prices-more : Prices g n s′ ((r, b) ∷ t)
   prices-more = record { each = λ c h. go c h (eq-or c r) }
     where
-      go : (c : ℕ) → c < n → (c ≡ r) ⊎ (c ≢ r) → As key (at s′ (2 * n + c)) (joined (at s′ (2 * c)) (at s′ (2 * c + 1))) (look c ((r, b) ∷ t))
+      go : (c : ℕ) → c < n → (c ≡ r) ⊎ (c ≢ r) → As g (at s′ (2 * n + c)) (joined (at s′ (2 * c)) (at s′ (2 * c + 1))) (look c ((r, b) ∷ t))
       go c h (inl q) = rw (q, look-here r b t, mark, low, high, halves (e .price)) N
       go c h (inr q) =
           rw (look-past c r b t q, other c (2 * n + c) h q (inr (inr refl)), other c (2 * c) h q (inl refl), other c (2 * c + 1) h q (inr (inl refl)))

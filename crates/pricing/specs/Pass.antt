@@ -3,23 +3,22 @@
 -- Assumes nothing.
 use mathlib.Core.List.{List, [], _++_, _∷_, filter}
 use mathlib.Core.Logic.{ite}
-use mathlib.Core.Option.{none}
 use mathlib.Core.Path.{_∙_, _≡_, ap, refl, sym}
-use Prim.Native.Nat.{_+_, _<_, _≤_, suc, zero, ℕ}
+use Prim.Native.Nat.{_+_, suc, ℕ}
 use native.Mathlib.Decide.{ℕ-discrete}
 use native.Mathlib.Numerals.{add-one}
 use native.Mathlib.Omega.{arith}
 use lib.ListN.{length}
 use Rattle.lists.specs.Keeps.{upto}
-use Rattle.lists.specs.Members.{Mem, no-member}
+use Rattle.lists.specs.Members.{no-member}
 use Rattle.language.specs.Term.{Term}
 use Rattle.steps.specs.Classes.{class-nodes, class-roots}
-use Rattle.steps.specs.Graph.{Graph, ids, key-of, root}
+use Rattle.steps.specs.Graph.{Graph, ids, root}
 use Rattle.closure.specs.Listed.{roots-from}
 use Rattle.layout.specs.Idle.{lent-same}
 use Rattle.layout.specs.View.{View, view}
 use Rattle.layout.specs.declared.Head.{Head}
-use Rattle.price.specs.Pass.{Table, accept, best, look, pass, turn}
+use Rattle.price.specs.Pass.{Table, accept, best, pass, turn}
 use Rattle.price.specs.Size.{AstSize}
 use Rattle.pricing.specs.Classed.{Classed, classed-lent}
 use Rattle.pricing.specs.Entries.{Prices}
@@ -67,13 +66,13 @@ pass-all g C t =
 
 pub record Passes (h : Head) (ws : List ℕ) (r : Taken) (ws′ : List ℕ) : Type 0 where
   pub only : Scratched (h .n) (h .m) ws ws′
-  pub law : (g : Graph) (t : Table ℕ) → Classed h (view (h .n) (h .m) ws) g → Prices (key-of g) (h .n) (view (h .n) (h .m) ws .scratch) t
+  pub law : (g : Graph) (t : Table ℕ) → Classed h (view (h .n) (h .m) ws) g → Prices g (h .n) (view (h .n) (h .m) ws .scratch) t
       → Took g (h .n) (view (h .n) (h .m) ws′ .scratch) t (pass AstSize (class-nodes g) (class-roots g) t) r
 
 -- the ids below i have had their turn, and k entries were taken
 pub record Passing (h : Head) (i k : ℕ) (ws ws′ : List ℕ) : Type 0 where
   pub only : Scratched (h .n) (h .m) ws ws′
-  pub law : (g : Graph) (t : Table ℕ) → Classed h (view (h .n) (h .m) ws) g → Prices (key-of g) (h .n) (view (h .n) (h .m) ws .scratch) t
+  pub law : (g : Graph) (t : Table ℕ) → Classed h (view (h .n) (h .m) ws) g → Prices g (h .n) (view (h .n) (h .m) ws .scratch) t
       → Took g (h .n) (view (h .n) (h .m) ws′ .scratch) t (pass AstSize (class-nodes g) (upto i) t) (TakenIs k)
 
 pub took-count : {g : Graph} {n : ℕ} {ss : List ℕ} {t u : Table ℕ} {k : ℕ} → Took g n ss t u (TakenIs k) → length u ≡ length t + k
@@ -86,7 +85,7 @@ module _ (h : Head) (ws : List ℕ) where
 
   module _ (i k : ℕ) (ws1 ws2 : List ℕ) (A : Passing h i k ws ws1) (r : Taken) (B : Turns h i ws1 r ws2) where
     -- the turn of id i, after those below it
-    took : (g : Graph) (t : Table ℕ) → Classed h (view (h .n) (h .m) ws) g → Prices (key-of g) (h .n) (view (h .n) (h .m) ws .scratch) t
+    took : (g : Graph) (t : Table ℕ) → Classed h (view (h .n) (h .m) ws) g → Prices g (h .n) (view (h .n) (h .m) ws .scratch) t
         → Took g (h .n) (view (h .n) (h .m) ws2 .scratch) (pass AstSize (class-nodes g) (upto i) t) (turn AstSize (class-nodes g) i (pass AstSize (class-nodes g) (upto i) t)) r
     took g t C P = B .law g (pass AstSize (class-nodes g) (upto i) t) (classed-lent (A .only) C) (A .law g t C P .prices)
 

@@ -6,14 +6,13 @@ use mathlib.Core.List.{List, _∷_}
 use mathlib.Core.Logic.{_≢_}
 use mathlib.Core.Option.{Option, none, some}
 use mathlib.Core.Path.{_∙_, _≡_, ap, refl, subst, sym}
-use Prim.Native.Nat.{_*_, _+_, _<_, _^_, _≤_, min, ℕ}
+use Prim.Native.Nat.{_+_, _<_, _≤_, min, ℕ}
 use native.Mathlib.Decide.{decLe}
 use native.Mathlib.Omega.{arith}
 use lib.ListN.{length}
 use Rattle.lists.specs.Tests.{when-no, when-yes}
-use Rattle.language.specs.Term.{Term}
 use Rattle.steps.specs.Classes.{class-nodes}
-use Rattle.steps.specs.Graph.{Graph, key-of}
+use Rattle.steps.specs.Graph.{Graph}
 use Rattle.layout.specs.Cut.{need, scratch}
 use Rattle.layout.specs.Idle.{lent-same}
 use Rattle.layout.specs.Lent.{Lent, lent-map, lent-twice}
@@ -33,14 +32,14 @@ use Rattle.pricing.specs.declared.Taken.the-variants.{TakenBroken, Taken
 -- ---- what is accepted
 
 -- b is proposed, and is taken: whatever the class and the table
-pub record Takes (key : ℕ → Term) (new : Entry) (old prop : Option (Best ℕ)) : Type 0 where
+pub record Takes (g : Graph) (new : Entry) (old prop : Option (Best ℕ)) : Type 0 where
   pub best : Best ℕ
-  pub named : Names key (new .mark) (new .price) best
+  pub named : Names g (new .mark) (new .price) best
   pub grown : (r : ℕ) (t : Table ℕ) → accept AstSize r old prop t ≡ (r, best) ∷ t
 
 pub record Accepts (old new : Entry) (b : Bool) : Type 0 where
-  pub yes-law : b ≡ true → (key : ℕ → Term) (o p : Option (Best ℕ)) → Means key old o → Means key new p → Takes key new o p
-  pub no-law : b ≡ false → (key : ℕ → Term) (o p : Option (Best ℕ)) → Means key old o → Means key new p → (r : ℕ) (t : Table ℕ) → accept AstSize r o p t ≡ t
+  pub yes-law : b ≡ true → (g : Graph) (o p : Option (Best ℕ)) → Means g old o → Means g new p → Takes g new o p
+  pub no-law : b ≡ false → (g : Graph) (o p : Option (Best ℕ)) → Means g old o → Means g new p → (r : ℕ) (t : Table ℕ) → accept AstSize r o p t ≡ t
 
 true-false : {A : Type 0} → _≡_ {A = Bool} true false → A
 true-false e = let z : _≡_ {A = ℕ} 0 1 = cc in absurd (omega arith)
@@ -50,28 +49,28 @@ module _ (old new : Entry) where
   unfolding accept
   accept-nothing z = record { yes-law = λ e. true-false (sym e); no-law = λ e. go }
     where
-      go : (key : ℕ → Term) (o p : Option (Best ℕ)) → Means key old o → Means key new p → (r : ℕ) (t : Table ℕ) → accept AstSize r o p t ≡ t
-      go key o none M N r t = refl
-      go key o (some b) M N r t = absurd (omega (arith, N .marked))
+      go : (g : Graph) (o p : Option (Best ℕ)) → Means g old o → Means g new p → (r : ℕ) (t : Table ℕ) → accept AstSize r o p t ≡ t
+      go g o none M N r t = refl
+      go g o (some b) M N r t = absurd (omega (arith, N .marked))
 
   pub accept-first : new .mark ≢ 0 → old .mark ≡ 0 → Accepts old new true
   unfolding accept
   accept-first n z = record { yes-law = λ e. go; no-law = λ e. true-false e }
     where
-      go : (key : ℕ → Term) (o p : Option (Best ℕ)) → Means key old o → Means key new p → Takes key new o p
-      go key o none M N = absurd (n N)
-      go key none (some b) M N = record { best = b; named = N; grown = λ r t. refl }
-      go key (some a) (some b) M N = absurd (omega (arith, M .marked))
+      go : (g : Graph) (o p : Option (Best ℕ)) → Means g old o → Means g new p → Takes g new o p
+      go g o none M N = absurd (n N)
+      go g none (some b) M N = record { best = b; named = N; grown = λ r t. refl }
+      go g (some a) (some b) M N = absurd (omega (arith, M .marked))
 
   module _ (n : new .mark ≢ 0) (w : old .mark ≢ 0) where
     pub accept-less : new .price < old .price → Accepts old new true
     unfolding accept
     accept-less l = record { yes-law = λ e. go; no-law = λ e. true-false e }
       where
-        go : (key : ℕ → Term) (o p : Option (Best ℕ)) → Means key old o → Means key new p → Takes key new o p
-        go key o none M N = absurd (n N)
-        go key none (some b) M N = absurd (w M)
-        go key (some a) (some b) M N =
+        go : (g : Graph) (o p : Option (Best ℕ)) → Means g old o → Means g new p → Takes g new o p
+        go g o none M N = absurd (n N)
+        go g none (some b) M N = absurd (w M)
+        go g (some a) (some b) M N =
             let q : min (a .price) cap ≤ min (b .price) cap → ⊥ =
             more (a .price) (b .price) (omega (arith, M .small, M .price-is)) (omega (arith, N .small, N .price-is)) (omega (arith, M .price-is, N .price-is)) in
             record { best = b; named = N; grown = λ r t. when-no (decLe (min (a .price) cap) (min (b .price) cap)) t ((r, b) ∷ t) q }
@@ -80,10 +79,10 @@ module _ (old new : Entry) where
     unfolding accept
     accept-no l = record { yes-law = λ e. true-false (sym e); no-law = λ e. go }
       where
-        go : (key : ℕ → Term) (o p : Option (Best ℕ)) → Means key old o → Means key new p → (r : ℕ) (t : Table ℕ) → accept AstSize r o p t ≡ t
-        go key o none M N r t = absurd (n N)
-        go key none (some b) M N r t = absurd (w M)
-        go key (some a) (some b) M N r t =
+        go : (g : Graph) (o p : Option (Best ℕ)) → Means g old o → Means g new p → (r : ℕ) (t : Table ℕ) → accept AstSize r o p t ≡ t
+        go g o none M N r t = absurd (n N)
+        go g none (some b) M N r t = absurd (w M)
+        go g (some a) (some b) M N r t =
             let q : min (a .price) cap ≤ min (b .price) cap =
             no-more (a .price) (b .price) (omega (arith, M .small, M .price-is)) (omega (arith, N .small, N .price-is)) (omega (arith, M .price-is, N .price-is)) in
             when-yes (decLe (min (a .price) cap) (min (b .price) cap)) t ((r, b) ∷ t) q
@@ -101,13 +100,13 @@ scratched-then a b = lent-twice (λ x y z p q. tt) a b
 pub record Took (g : Graph) (n : ℕ) (ss : List ℕ) (t u : Table ℕ) (r : Taken) : Type 0 where
   pub count : ℕ
   pub is : r ≡ TakenIs count
-  pub prices : Prices (key-of g) n ss u
+  pub prices : Prices g n ss u
   pub grown : length u ≡ length t + count
 
 pub record Turns (h : Head) (a : ℕ) (ws : List ℕ) (r : Taken) (ws′ : List ℕ) : Type 0 where
   pub only : Scratched (h .n) (h .m) ws ws′
   pub few : (k : ℕ) → r ≡ TakenIs k → k ≤ 1
-  pub law : (g : Graph) (t : Table ℕ) → Classed h (view (h .n) (h .m) ws) g → Prices (key-of g) (h .n) (view (h .n) (h .m) ws .scratch) t
+  pub law : (g : Graph) (t : Table ℕ) → Classed h (view (h .n) (h .m) ws) g → Prices g (h .n) (view (h .n) (h .m) ws .scratch) t
       → Took g (h .n) (view (h .n) (h .m) ws′ .scratch) t (turn AstSize (class-nodes g) a t) r
 
 pub taken-broken : {A : Type 0} (k : ℕ) → TakenBroken ≡ TakenIs k → A
@@ -126,22 +125,22 @@ module _ (h : Head) (a : ℕ) (ws : List ℕ) (c : Chosen) (B : BestOf h a (view
 
   module _ (new old : Entry) (is : c ≡ ChosenIs new) (ha : a < h .n) (E : EntryAt (h .n) (view (h .n) (h .m) ws .scratch) a old) (b : Bool) (A : Accepts old new b) where
     -- the entry and what is proposed, as the table has them
-    proposed : (g : Graph) (t : Table ℕ) → Classed h (view (h .n) (h .m) ws) g → Prices (key-of g) (h .n) (view (h .n) (h .m) ws .scratch) t
-        → Means (key-of g) new (best AstSize t (class-nodes g a))
+    proposed : (g : Graph) (t : Table ℕ) → Classed h (view (h .n) (h .m) ws) g → Prices g (h .n) (view (h .n) (h .m) ws .scratch) t
+        → Means g new (best AstSize t (class-nodes g a))
     proposed g t C P =
         let k = B .law g t C P in
         let z : k .0 ≡ new = cc (is, k .1) in
-        subst (λ (x : Entry). Means (key-of g) x (best AstSize t (class-nodes g a))) z (k .2)
+        subst (λ (x : Entry). Means g x (best AstSize t (class-nodes g a))) z (k .2)
 
     pub turn-kept : b ≡ false → Turns h a ws (TakenIs 0) ws
     unfolding turn
     turn-kept e = record {
       only = lent-same ws tt;
       few = λ k p. let z : 0 ≡ k = cc in omega arith;
-      law = λ g t C P. same g t P (A .no-law e (key-of g) (look a t) (best AstSize t (class-nodes g a)) (entry-as (key-of g) (h .n) _ t a old P ha E) (proposed g t C P) a t);
+      law = λ g t C P. same g t P (A .no-law e g (look a t) (best AstSize t (class-nodes g a)) (entry-as g (h .n) _ t a old P ha E) (proposed g t C P) a t);
     }
       where
-        same : (g : Graph) (t : Table ℕ) → Prices (key-of g) (h .n) (view (h .n) (h .m) ws .scratch) t
+        same : (g : Graph) (t : Table ℕ) → Prices g (h .n) (view (h .n) (h .m) ws .scratch) t
             → accept AstSize a (look a t) (best AstSize t (class-nodes g a)) t ≡ t
             → Took g (h .n) (view (h .n) (h .m) ws .scratch) t (accept AstSize a (look a t) (best AstSize t (class-nodes g a)) t) (TakenIs 0)
         same g t P q = record { count = 0; is = refl; prices = rw q P; grown = ap length q ∙ omega arith }
@@ -151,15 +150,15 @@ module _ (h : Head) (a : ℕ) (ws : List ℕ) (c : Chosen) (B : BestOf h a (view
     turn-taken ws′ ok e K = record {
       only = lent-map (λ s s′ p. tt) K;
       few = λ k p. let z : 1 ≡ k = cc in omega arith;
-      law = λ g t C P. one g t P (A .yes-law e (key-of g) (look a t) (best AstSize t (class-nodes g a)) (entry-as (key-of g) (h .n) _ t a old P ha E) (proposed g t C P));
+      law = λ g t C P. one g t P (A .yes-law e g (look a t) (best AstSize t (class-nodes g a)) (entry-as g (h .n) _ t a old P ha E) (proposed g t C P));
     }
       where
-        one : (g : Graph) (t : Table ℕ) → Prices (key-of g) (h .n) (view (h .n) (h .m) ws .scratch) t
-            → Takes (key-of g) new (look a t) (best AstSize t (class-nodes g a))
+        one : (g : Graph) (t : Table ℕ) → Prices g (h .n) (view (h .n) (h .m) ws .scratch) t
+            → Takes g new (look a t) (best AstSize t (class-nodes g a))
             → Took g (h .n) (view (h .n) (h .m) ws′ .scratch) t (accept AstSize a (look a t) (best AstSize t (class-nodes g a)) t) (TakenIs 1)
         one g t P T = record {
           count = 1;
           is = refl;
-          prices = rw (T .grown a t) (prices-more (key-of g) (h .n) _ _ t a new (T .best) P (get-length scratch (h .n) (h .m) ws ok) ha (T .named) (K .did));
+          prices = rw (T .grown a t) (prices-more g (h .n) _ _ t a new (T .best) P (get-length scratch (h .n) (h .m) ws ok) ha (T .named) (K .did));
           grown = ap length (T .grown a t) ∙ omega arith;
         }

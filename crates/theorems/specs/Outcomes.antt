@@ -69,7 +69,7 @@ limits-or n m = go (lt-or n 1) (lt-or 65536 n) (lt-or 262144 m)
     go (inr a) (inr b) (inr c) = inr (record { n-low = a; n-high = b; m-high = c })
 
 -- the other way round
-or-lt : (x y : ℕ) → (y ≤ x) ⊎ (x < y)
+pub or-lt : (x y : ℕ) → (y ≤ x) ⊎ (x < y)
 or-lt x y = go (lt-or x y)
   where
     go : (x < y) ⊎ (y ≤ x) → (y ≤ x) ⊎ (x < y)

@@ -16,4 +16,8 @@ returns-4 : tie.Need-returns-4
 returns-4 c = accept-no _ _ (c .before .before .before .before .before .if1 .left) (c .before .before .before .if2 .left) (omega (arith, (c .if3 .left)))
 
 pub accepts-spec : {M : Type 1} → statement M
-accepts-spec = tie.close (tie.spec returns returns-2 returns-3 returns-4)
+accepts-spec = tie.close (tie.spec
+    returns
+    returns-2
+    returns-3
+    returns-4)

@@ -13,4 +13,14 @@ unfolding cap
 returns-2 c = omega arith
 
 pub add-spec : {M : Type 1} → statement M
-add-spec = tie.close (tie.spec (λ c. search needs) returns (λ c. search needs) returns-2)
+add-spec = tie.close (tie.spec
+    (λ
+    c.
+    search
+    needs)
+    returns
+    (λ
+    c.
+    search
+    needs)
+    returns-2)

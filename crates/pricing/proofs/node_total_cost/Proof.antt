@@ -8,12 +8,6 @@ use Rattle.layout.specs.View.{view}
 use Rattle.pricing.specs.Node.{Adding, adding-start, adding-more, cost-none, cost-stray, cost-all}
 use Rattle.pricing.proofs.node_total_cost.Statement.{statement}
 use Rattle.pricing.proofs.node_total_cost.Tie as tie
-use Rattle.pricing.proofs.node_total_cost.Reads as reads
-use Rattle.pricing.proofs.node_total_cost.Lts as lts
-use Rattle.language.proofs.Node.child.Reads as child-reads
-use Rattle.pricing.proofs.add.Reads as add-reads
-use Rattle.pricing.proofs.get_entry.Reads as get-entry-reads
-use Rattle.pricing.proofs.wide.Reads as wide-reads
 
 abbrev Inv-loop : tie.InvT-loop
 Inv-loop ws h node n sum₀ i₀ sum i = (i ≤ n) × Adding (h .n) (h .ids) (view (h .n) (h .m) ws .scratch) (nodeOf node) i sum
@@ -21,23 +15,9 @@ Inv-loop ws h node n sum₀ i₀ sum i = (i ≤ n) × Adding (h .n) (h .ids) (vi
 abbrev μ-loop : tie.MeasureT-loop
 μ-loop ws h node n sum₀ i₀ sum i = n - i
 
--- src/lib.rt:110:9
-wide-requires : tie.Need-wide-requires Inv-loop μ-loop
-wide-requires c κs = search needs
-
--- src/lib.rt:113:5
 loop-holds : tie.Need-loop-holds Inv-loop μ-loop
 loop-holds c = (omega arith, adding-start _ _ _ _)
 
--- src/lib.rt:114:22
-child-requires : tie.Need-child-requires Inv-loop μ-loop
-child-requires c κs = search needs
-
--- src/lib.rt:114:13
-wide-requires-2 : tie.Need-wide-requires-2 Inv-loop μ-loop
-wide-requires-2 c κs = search needs
-
--- src/lib.rt:116:13
 returns : tie.Need-returns Inv-loop μ-loop
 returns c =
     let x = (c .before .before .before .before .before .before .before .before .args .node) in
@@ -45,11 +25,6 @@ returns c =
     let w = (c .before .before .before .before .before .before .wide .ensures .0) in
     cost-stray _ _ _ _ (c .before .before .before .before .before .loop .i) _ (omega (arith, (c .before .before .before .before .loop-test .taken))) ((c .before .before .wide2 .ensures .0) ∙ (c .before .before .before .child .ensures)) (c .if1 .taken)
 
--- src/lib.rt:118:13
-get-entry-requires : tie.Need-get-entry-requires Inv-loop μ-loop
-get-entry-requires c κs = search needs
-
--- src/lib.rt:120:13
 returns-2 : tie.Need-returns-2 Inv-loop μ-loop
 returns-2 c =
     let x = (c .before .before .before .before .before .before .before .before .before .before .before .args .node) in
@@ -57,19 +32,6 @@ returns-2 c =
     let w = (c .before .before .before .before .before .before .before .before .before .wide .ensures .0) in
     cost-none _ _ _ _ (c .before .before .before .before .before .before .before .before .loop .i) _ _ _ (c .before .before .before .before .before .before .before .before .loop .inv .1) (omega (arith, (c .before .before .before .before .before .before .before .loop-test .taken))) ((c .before .before .before .before .before .wide2 .ensures .0) ∙ (c .before .before .before .before .before .before .child .ensures)) (omega (arith, (c .before .before .before .if1 .left), (c .before .before .before .before .before .before .before .before .before .before .before .pre .0 .ids-in))) (c .before .before .get-entry .ensures) (c .if2 .taken)
 
--- src/lib.rt:122:9
-add-requires : tie.Need-add-requires Inv-loop μ-loop
-add-requires c κs = search needs
-
--- src/lib.rt:123:9
-add-i : tie.Need-add-i Inv-loop μ-loop
-add-i c = search needs
-
--- src/lib.rt:113:5
-loop-less : tie.Need-loop-less Inv-loop μ-loop
-loop-less c = search needs
-
--- src/lib.rt:113:5
 loop-again : tie.Need-loop-again Inv-loop μ-loop
 loop-again c =
     let x = (c .before .before .before .before .before .before .before .before .before .before .before .before .args .node) in
@@ -77,7 +39,6 @@ loop-again c =
     let w = (c .before .before .before .before .before .before .before .before .before .before .wide .ensures .0) in
     (omega arith, adding-more _ _ _ _ (c .before .before .before .before .before .before .before .before .before .loop .i) _ _ _ (c .before .before .before .before .before .before .before .before .before .loop .inv .1) (omega (arith, (c .before .before .before .before .before .before .before .before .loop-test .taken))) ((c .before .before .before .before .before .before .wide2 .ensures .0) ∙ (c .before .before .before .before .before .before .before .child .ensures)) (omega (arith, (c .before .before .before .before .if1 .left), (c .before .before .before .before .before .before .before .before .before .before .before .before .pre .0 .ids-in))) (c .before .before .before .get-entry .ensures) _ (c .before .if2 .left) (c .add .ensures))
 
--- src/lib.rt:105:1
 returns-3 : tie.Need-returns-3 Inv-loop μ-loop
 returns-3 c =
     let x = (c .before .before .before .before .args .node) in
@@ -91,15 +52,15 @@ node-total-cost-spec =
     (tie.spec
     Inv-loop
     μ-loop
-    wide-requires
+    (λ c κs. search needs)
     loop-holds
-    child-requires
-    wide-requires-2
+    (λ c κs. search needs)
+    (λ c κs. search needs)
     returns
-    get-entry-requires
+    (λ c κs. search needs)
     returns-2
-    add-requires
-    add-i
-    loop-less
+    (λ c κs. search needs)
+    (λ c. search needs)
+    (λ c. search needs)
     loop-again
     returns-3)

@@ -6,9 +6,6 @@ use lib.ListN.{length}
 use Rattle.pricing.specs.Pass.{Passing, pass-broken, pass-done, passing-more, passing-start}
 use Rattle.pricing.proofs.pass.Statement.{statement}
 use Rattle.pricing.proofs.pass.Tie as tie
-use Rattle.pricing.proofs.pass.Reads as reads
-use Rattle.pricing.proofs.pass.Lts as lts
-use Rattle.pricing.proofs.turn.Reads as turn-reads
 
 abbrev Inv-loop : tie.InvT-loop
 Inv-loop ws₀ h ids taken₀ r₀ ws taken r = (r ≤ ids) × (taken ≤ r) × (length ws ≡ length ws₀) × Passing h r taken ws₀ ws
@@ -16,51 +13,24 @@ Inv-loop ws₀ h ids taken₀ r₀ ws taken r = (r ≤ ids) × (taken ≤ r) × 
 abbrev μ-loop : tie.MeasureT-loop
 μ-loop ws₀ h ids taken₀ r₀ ws taken r = ids - r
 
--- src/lib.rt:240:5
 loop-holds : tie.Need-loop-holds Inv-loop μ-loop
 loop-holds c = (omega arith, omega arith, refl, passing-start _ _)
 
--- src/lib.rt:241:33
-turn-requires : tie.Need-turn-requires Inv-loop μ-loop
-turn-requires c κs = search needs
-
--- src/lib.rt:241:28
-enum-known-k : tie.Need-enum-known-k Inv-loop μ-loop
-enum-known-k c = search needs
-
--- src/lib.rt:242:13
-enum-told : tie.Need-enum-told Inv-loop μ-loop
-enum-told c = search needs
-
--- src/lib.rt:242:13
 same-length : tie.Need-same-length Inv-loop μ-loop
 same-length c = (c .before .before .before .before .turn .ensures .only .size) ∙ (c .before .before .before .before .before .before .before .loop .inv .2)
 
--- src/lib.rt:242:13
 returns : tie.Need-returns Inv-loop μ-loop
 returns c = pass-broken _ _ _ _ _ _ (c .before .before .before .before .before .before .before .loop .inv .3) _ (c .before .before .before .before .turn .ensures) (c .enum-told .given .1)
 
--- src/lib.rt:244:9
 add-taken : tie.Need-add-taken Inv-loop μ-loop
 add-taken c = omega (arith, (c .before .before .before .before .before .turn .ensures .few _ (c .before .k .given .1)))
 
--- src/lib.rt:245:9
-add-r : tie.Need-add-r Inv-loop μ-loop
-add-r c = search needs
-
--- src/lib.rt:240:5
-loop-less : tie.Need-loop-less Inv-loop μ-loop
-loop-less c = search needs
-
--- src/lib.rt:240:5
 loop-again : tie.Need-loop-again Inv-loop μ-loop
 loop-again c = (omega arith, omega (arith, (c .before .before .before .before .before .turn .ensures .few _ (c .before .k .given .1))), (c .before .before .before .before .before .turn .ensures .only .size) ∙ (c .before .before .before .before .before .before .before .before .loop .inv .2), passing-more _ _ _ _ _ _ (c .before .before .before .before .before .before .before .before .loop .inv .3) _ (c .before .before .before .before .before .turn .ensures) _ (c .before .k .given .1))
 
--- src/lib.rt:233:1
 same-length-2 : tie.Need-same-length-2 Inv-loop μ-loop
 same-length-2 c = (c .before .loop .inv .2)
 
--- src/lib.rt:233:1
 returns-2 : tie.Need-returns-2 Inv-loop μ-loop
 returns-2 c = pass-done _ _ _ _ _ (omega (arith, (c .loop-test .left))) (c .before .loop .inv .3)
 
@@ -71,14 +41,14 @@ pass-spec =
     Inv-loop
     μ-loop
     loop-holds
-    turn-requires
-    enum-known-k
-    enum-told
+    (λ c κs. search needs)
+    (λ c. search needs)
+    (λ c. search needs)
     same-length
     returns
     add-taken
-    add-r
-    loop-less
+    (λ c. search needs)
+    (λ c. search needs)
     loop-again
     same-length-2
     returns-2)
