@@ -33,7 +33,7 @@ pub spot-here : (c : ℕ) (x : Term) (l : Listing) → spot c ((c, x) ∷ l) ≡
 unfolding spot
 spot-here c x l = when-yes (ℕ-discrete c c) (some (length l)) (spot c l) refl
 
-spot-past : (c q : ℕ) (x : Term) (l : Listing) → c ≢ q → spot c ((q, x) ∷ l) ≡ spot c l
+pub spot-past : (c q : ℕ) (x : Term) (l : Listing) → c ≢ q → spot c ((q, x) ∷ l) ≡ spot c l
 unfolding spot
 spot-past c q x l n = when-no (ℕ-discrete c q) (some (length l)) (spot c l) n
 
