@@ -1,2 +1,4 @@
 pub mod Way
 pub mod Kids
+pub mod State
+pub mod Step

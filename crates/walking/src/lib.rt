@@ -14,9 +14,12 @@ ghost use Prim.Native.Nat.{_+_, _<_, _≤_, _^_};
 ghost use lib.ListN.{length};
 ghost use Rattle.language.specs.Term.{places};
 ghost use Rattle.language.specs.Struct.{nodeOf};
+ghost use Rattle.layout.specs.Cut.{scratch};
 ghost use Rattle.layout.specs.Head.{HeadOk};
+ghost use Rattle.layout.specs.Lent.{Lent};
 ghost use Rattle.layout.specs.View.{View, view};
 ghost use Rattle.walking.specs.Kids.{FirstKid, NextKidOf};
+ghost use Rattle.walking.specs.Step.{ListsAt, Steps};
 use language::Id;
 use language::Node;
 use layout::Head;
@@ -26,6 +29,17 @@ pub enum NextKid {
     NextKidIs(usize),
     NextKidNone,
     NextKidBroken,
+}
+
+// How far the walk has come: how many classes are listed, and how many stand on the stack.
+pub struct Reached {
+    pub listed: usize,
+    pub depth: usize,
+}
+
+pub enum Stepped {
+    SteppedTo(Reached),
+    SteppedBroken,
 }
 
 fn wide(x: u32) -> usize
@@ -80,4 +94,57 @@ fn next_kid(ws: &[u32], h: Head, c: usize) -> NextKid
         return NextKid::NextKidBroken;
     };
     first_unlisted(ws, h, node)
+}
+
+// ---- the steps
+
+// Class c is listed at place k.
+fn list_class(ws: &mut [u32], h: Head, k: usize, c: usize)
+    requires { ⌜ HeadOk (length (now ws)) h ⌝ }
+    requires { ⌜ (k < h .n) × (c < h .n) ⌝ }
+    ensures { λ _. ⌜ Lent scratch (h .n) (h .m) (ListsAt (h .n) k c) (now (ws .entry)) (now (ws .exit)) ⌝ }
+{
+    let n = h.n;
+    layout::set_scratch(ws, h, 4 * n + k, c);
+    layout::set_scratch(ws, h, 3 * n + c, k + 1);
+}
+
+// One step, with d classes on the stack: the next child of the top goes onto it, or the top is listed.
+fn step(ws: &mut [u32], h: Head, from: Reached) -> Stepped
+    requires { ⌜ HeadOk (length (now ws)) h ⌝ }
+    requires { ⌜ (from .listed ≤ h .n) × (0 < from .depth) × (from .depth ≤ h .n) ⌝ }
+    ensures { λ r. ⌜ Steps h (from .listed) (from .depth) (now (ws .entry)) r (now (ws .exit)) ⌝ }
+{
+    let n = h.n;
+    let k = from.listed;
+    let d = from.depth;
+    let c = layout::scratch(ws, h, 5 * n + (d - 1));
+    if h.ids <= c {
+        return Stepped::SteppedBroken;
+    }
+    match next_kid(ws, h, c) {
+        NextKid::NextKidBroken => Stepped::SteppedBroken,
+        NextKid::NextKidIs(x) => {
+            if d == n {
+                return Stepped::SteppedBroken;
+            }
+            layout::set_scratch(ws, h, 5 * n + d, x);
+            let to = Reached {
+                listed: k,
+                depth: d + 1,
+            };
+            Stepped::SteppedTo(to)
+        }
+        NextKid::NextKidNone => {
+            if k == n {
+                return Stepped::SteppedBroken;
+            }
+            list_class(ws, h, k, c);
+            let to = Reached {
+                listed: k + 1,
+                depth: d - 1,
+            };
+            Stepped::SteppedTo(to)
+        }
+    }
 }
