@@ -20,6 +20,7 @@ ghost use Rattle.layout.specs.Lent.{Lent};
 ghost use Rattle.layout.specs.View.{View, view};
 ghost use Rattle.walking.specs.Kids.{FirstKid, NextKidOf};
 ghost use Rattle.walking.specs.Step.{ListsAt, Steps};
+ghost use Rattle.walking.specs.Walk.{ListsForm, Walks};
 use language::Id;
 use language::Node;
 use layout::Head;
@@ -40,6 +41,12 @@ pub struct Reached {
 pub enum Stepped {
     SteppedTo(Reached),
     SteppedBroken,
+}
+
+// How many classes are listed.
+pub enum Listed {
+    ListedIs(usize),
+    ListedBroken,
 }
 
 fn wide(x: u32) -> usize
@@ -147,4 +154,33 @@ fn step(ws: &mut [u32], h: Head, from: Reached) -> Stepped
             Stepped::SteppedTo(to)
         }
     }
+}
+
+// Steps until the stack is empty, from one class on it and none listed. Each step lists a class or goes one deeper, so that any words end within 3n steps.
+fn finish(ws: &mut [u32], h: Head) -> Listed
+    requires { ⌜ HeadOk (length (now ws)) h ⌝ }
+    ensures { λ o. ⌜ Walks h (now (ws .entry)) o (now (ws .exit)) ⌝ }
+{
+    let mut at = Reached {
+        listed: 0,
+        depth: 1,
+    };
+    while 0 < at.depth {
+        let Stepped::SteppedTo(to) = step(ws, h, at) else {
+            return Listed::ListedBroken;
+        };
+        at = to;
+    }
+    Listed::ListedIs(at.listed)
+}
+
+// The listing of the cheapest form of class r, where no class is listed yet.
+pub fn list_form(ws: &mut [u32], h: Head, r: usize) -> Listed
+    requires { ⌜ HeadOk (length (now ws)) h ⌝ }
+    requires { ⌜ r < h .n ⌝ }
+    ensures { λ o. ⌜ ListsForm h r (now (ws .entry)) o (now (ws .exit)) ⌝ }
+{
+    let n = h.n;
+    layout::set_scratch(ws, h, 5 * n, r);
+    finish(ws, h)
 }
