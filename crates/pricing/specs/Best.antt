@@ -17,7 +17,7 @@ use Rattle.language.specs.Struct.{nodeOf}
 use Rattle.language.specs.Term.{Term}
 use Rattle.steps.specs.Classes.{class-nodes}
 use Rattle.steps.specs.Graph.{Graph, ids, key-of}
-use Rattle.cells.specs.Cursor.{Cursor, cursor-low, cursor-start, cursor-step, length-low}
+use Rattle.cells.specs.Cursor.{Cursor, cursor-start, cursor-step, length-low}
 use Rattle.cells.specs.Pool.{Pool, row}
 use Rattle.cells.specs.Reading.{Word}
 use Rattle.layout.specs.View.{View}
@@ -96,7 +96,7 @@ abbrev pub better-of : Table ℕ → Term → Option (Best ℕ) → Option (Best
 better-of t x o = better AstSize x (priced AstSize x (prices t (x .kids))) o
 
 pub record Betters (h : Head) (id : ℕ) (b : Entry) (v : View) (r : Chosen) : Type 0 where
-  pub low : (e : Entry) → r ≡ ChosenIs e → e .mark ≤ h .n
+  pub low : (e : Entry) → r ≡ ChosenIs e → e .mark ≤ h .ids
   pub law : (g : Graph) (t : Table ℕ) (o : Option (Best ℕ)) → Classed h v g → Prices (key-of g) (h .n) (v .scratch) t → id < ids g → Means (key-of g) b o
       → (e : Entry) × (r ≡ ChosenIs e) × Means (key-of g) e (better-of t (key-of g id) o)
 
@@ -132,7 +132,7 @@ module _ (h : Head) (id : ℕ) (b : Entry) (v : View) (f : Fetched) (F : Key (v 
         apart none e = let z : _≡_ {A = ℕ} 0 1 = cc in omega arith
         apart (some p) e = let z : _≡_ {A = ℕ} 0 1 = cc in omega arith
 
-    pub better-none : b .mark ≤ h .n → c ≡ NodeCostNone → Betters h id b v (ChosenIs b)
+    pub better-none : b .mark ≤ h .ids → c ≡ NodeCostNone → Betters h id b v (ChosenIs b)
     unfolding better
     better-none lo q = record {
       low = λ e p. let z : b ≡ e = cc in rw (← z) lo;
@@ -143,9 +143,9 @@ module _ (h : Head) (id : ℕ) (b : Entry) (v : View) (f : Fetched) (F : Key (v 
         go key x o none e M = M
         go key x o (some p) e M = let z : _≡_ {A = ℕ} 0 1 = cc in absurd (omega arith)
 
-    pub better-priced : (p : ℕ) (r : Entry) → id < h .n → b .mark ≤ h .n → c ≡ NodeCostIs p → Chooses b p id r → Betters h id b v (ChosenIs r)
+    pub better-priced : (p : ℕ) (r : Entry) → id < h .ids → b .mark ≤ h .ids → c ≡ NodeCostIs p → Chooses b p id r → Betters h id b v (ChosenIs r)
     better-priced p r li lo q K = record {
-      low = λ e w. let z : r ≡ e = cc in rw (← z) (K .low (h .n) lo li);
+      low = λ e w. let z : r ≡ e = cc in rw (← z) (K .low (h .ids) lo li);
       law = λ g t o C P lt M. (r, refl, go g o (priced AstSize (key-of g id) (prices t (key-of g id .kids))) (sym q ∙ costs g t C P lt) M);
     }
       where
@@ -156,13 +156,13 @@ module _ (h : Head) (id : ℕ) (b : Entry) (v : View) (f : Fetched) (F : Key (v 
 -- ---- all nodes of a class
 
 pub record BestOf (h : Head) (a : ℕ) (v : View) (r : Chosen) : Type 0 where
-  pub low : (e : Entry) → r ≡ ChosenIs e → e .mark ≤ h .n
+  pub low : (e : Entry) → r ≡ ChosenIs e → e .mark ≤ h .ids
   pub law : (g : Graph) (t : Table ℕ) → Classed h v g → Prices (key-of g) (h .n) (v .scratch) t
       → (e : Entry) × (r ≡ ChosenIs e) × Means (key-of g) e (best AstSize t (class-nodes g a))
 
 -- on its way back: `left` ids of list a are still to come, the next is cur, and b is the best of those behind
 pub record Walking (h : Head) (a : ℕ) (v : View) (left cur : ℕ) (b : Entry) : Type 0 where
-  pub low : b .mark ≤ h .n
+  pub low : b .mark ≤ h .ids
   pub cursor : Cursor (v .members) (h .n) (h .n) a left cur
   pub law : (g : Graph) (t : Table ℕ) (C : Classed h v g) → Prices (key-of g) (h .n) (v .scratch) t
       → Means (key-of g) b (best AstSize t (map (key-of g) (drop left (row (C .lists) a))))
@@ -183,18 +183,15 @@ module _ (h : Head) (a : ℕ) (v : View) (ha : a < h .n) where
   }
 
   module _ (left cur : ℕ) (b : Entry) (W : Walking h a v left cur b) (some : 0 < left) where
-    pub walk-stray : h .n ≤ cur → BestOf h a v ChosenBroken
-    walk-stray off = record {
-      low = λ e p. broken-is e p;
-      law = λ g t C P. absurd (omega (arith, cursor-low (v .members) (h .n) (h .n) a ha left cur (W .cursor) some (C .lists) (C .pool)));
-    }
-
     -- cur is an id of the list
     met : (g : Graph) (C : Classed h v g) → (cur ≡ at (row (C .lists) a) (left - 1)) × (left ≤ length (row (C .lists) a)) × (cur < ids g)
     met g C =
         let e = W .cursor .cell (C .lists) (C .pool) (left - 1) (omega arith) in
         let l = W .cursor .short (C .lists) (C .pool) in
         (e, l, rw e (C .in-ids a (at (row (C .lists) a) (left - 1)) (mem-at (row (C .lists) a) (left - 1) (omega arith))))
+
+    pub walk-stray : h .ids ≤ cur → BestOf h a v ChosenBroken
+    walk-stray off = record { low = λ e p. broken-is e p; law = λ g t C P. absurd (omega (arith, met g C .2, C .ids-are)) }
 
     module _ (r : Chosen) (B : Betters h cur b v r) where
       pub walk-broken : r ≡ ChosenBroken → BestOf h a v ChosenBroken

@@ -25,7 +25,7 @@ use Rattle.price.specs.Extract.{table}
 use Rattle.price.specs.Pass.{Passes as Run, Table, done, more, pass}
 use Rattle.price.specs.Size.{AstSize}
 use Rattle.pricing.specs.Classed.{Classed, classed-lent}
-use Rattle.pricing.specs.Entries.{Prices}
+use Rattle.pricing.specs.Entries.{Prices, Within, within-same, within-then}
 use Rattle.pricing.specs.Pass.{Passes, took-count}
 use Rattle.pricing.specs.Turn.{Scratched, Took, scratched-then, taken-broken}
 use Rattle.pricing.specs.declared.Taken.{Taken}
@@ -33,6 +33,7 @@ use Rattle.pricing.specs.declared.Taken.the-variants.{TakenBroken, Taken
 
 pub record FindsCosts (h : Head) (ws : List ℕ) (r : Change) (ws′ : List ℕ) : Type 0 where
   pub only : Scratched (h .n) (h .m) ws ws′
+  pub within : Within (h .n) (h .ids) (view (h .n) (h .m) ws .scratch) (view (h .n) (h .m) ws′ .scratch)
   pub law : (g : Graph) → Classed h (view (h .n) (h .m) ws) g → Prices (key-of g) (h .n) (view (h .n) (h .m) ws .scratch) []
       → (r ≡ ChangeDone) × Prices (key-of g) (h .n) (view (h .n) (h .m) ws′ .scratch) (table AstSize g)
 
@@ -46,16 +47,17 @@ pub record On-way (g : Graph) (n i : ℕ) (ss : List ℕ) : Type 0 where
 
 pub record Finding (h : Head) (i : ℕ) (ws ws′ : List ℕ) : Type 0 where
   pub only : Scratched (h .n) (h .m) ws ws′
+  pub within : Within (h .n) (h .ids) (view (h .n) (h .m) ws .scratch) (view (h .n) (h .m) ws′ .scratch)
   pub law : (g : Graph) → Classed h (view (h .n) (h .m) ws) g → Prices (key-of g) (h .n) (view (h .n) (h .m) ws .scratch) []
       → On-way g (h .n) i (view (h .n) (h .m) ws′ .scratch)
 
 module _ (h : Head) (ws : List ℕ) where
   -- more nodes than ids: no graph's words
   pub costs-long : (r : Total) → Totals (view (h .n) (h .m) ws .members) (h .n) (h .ids) r → r ≡ TotalBroken → FindsCosts h ws ChangeBroken ws
-  costs-long r T e = record { only = lent-same ws tt; law = λ g C P. absurd (omega (arith, T .broken e, C .few)) }
+  costs-long r T e = record { only = lent-same ws tt; within = within-same (h .n) (h .ids) _; law = λ g C P. absurd (omega (arith, T .broken e, C .few)) }
 
   pub finding-start : Finding h 0 ws ws
-  finding-start = record { only = lent-same ws tt; law = λ g C P. first g P (end-in-time AstSize (class-nodes g) (class-roots g) (C .listed)) }
+  finding-start = record { only = lent-same ws tt; within = within-same (h .n) (h .ids) _; law = λ g C P. first g P (end-in-time AstSize (class-nodes g) (class-roots g) (C .listed)) }
     where
       first : (g : Graph) → Prices (key-of g) (h .n) (view (h .n) (h .m) ws .scratch) []
           → (n : ℕ) × (n ≤ suc (length (class-roots g))) × Run AstSize (class-nodes g) (class-roots g) n [] (table AstSize g)
@@ -77,6 +79,7 @@ module _ (h : Head) (ws : List ℕ) where
     pub costs-broken : r ≡ TakenBroken → FindsCosts h ws ChangeBroken ws2
     costs-broken e = record {
       only = scratched-then (A .only) (B .only);
+      within = within-then (A .within) (B .within);
       law = λ g C P. let T = took g C (A .law g C P) in taken-broken (T .count) (sym e ∙ T .is);
     }
 
@@ -84,6 +87,7 @@ module _ (h : Head) (ws : List ℕ) where
     pub costs-done : (k : ℕ) → r ≡ TakenIs k → k ≡ 0 → FindsCosts h ws ChangeDone ws2
     costs-done k e z = record {
       only = scratched-then (A .only) (B .only);
+      within = within-then (A .within) (B .within);
       law = λ g C P. (refl, last g (A .law g C P) (took g C (A .law g C P)));
     }
       where
@@ -107,6 +111,7 @@ module _ (h : Head) (ws : List ℕ) where
     pub finding-more : (k : ℕ) → r ≡ TakenIs k → k ≢ 0 → Finding h (i + 1) ws ws2
     finding-more k e n = record {
       only = scratched-then (A .only) (B .only);
+      within = within-then (A .within) (B .within);
       law = λ g C P. let W = A .law g C P in next g (W .now) (W .left) (W .bound) (W .run) (took g C W);
     }
       where
@@ -130,7 +135,7 @@ module _ (h : Head) (ws : List ℕ) where
 
   -- no rounds left: not on words that hold a clean graph
   pub costs-out : (i : ℕ) (ws′ : List ℕ) → h .ids < i → Finding h i ws ws′ → FindsCosts h ws ChangeBroken ws′
-  costs-out i ws′ l A = record { only = A .only; law = λ g C P. let W = A .law g C P in absurd (some g (W .run) (omega (arith, W .bound, C .ids-are))) }
+  costs-out i ws′ l A = record { only = A .only; within = A .within; law = λ g C P. let W = A .law g C P in absurd (some g (W .run) (omega (arith, W .bound, C .ids-are))) }
     where
       some : (g : Graph) {n : ℕ} {t u : Table ℕ} → Run AstSize (class-nodes g) (class-roots g) n t u → n ≤ 0 → ⊥
       some g (done q) z = omega arith

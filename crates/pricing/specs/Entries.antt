@@ -40,6 +40,10 @@ As key mark price (some b) = Names key mark price b
 pub record Prices (key : ℕ → Term) (n : ℕ) (ss : List ℕ) (t : Table ℕ) : Type 0 where
   pub each : (c : ℕ) → c < n → As key (at ss (2 * n + c)) (joined (at ss (2 * c)) (at ss (2 * c + 1))) (look c t)
 
+-- every mark is 0, or 1 and an id below N
+abbrev pub MarksIn : ℕ → ℕ → List ℕ → Type 0
+MarksIn n N ss = (c : ℕ) → c < n → at ss (2 * n + c) ≤ N
+
 -- ---- an entry read, and an entry written
 
 pub record EntryAt (n : ℕ) (ss : List ℕ) (c : ℕ) (e : Entry) : Type 0 where
@@ -92,6 +96,29 @@ module _ (key : ℕ → Term) (n : ℕ) (s s′ : List ℕ) (t : Table ℕ) (r :
       go c h (inr q) =
           rw (look-past c r b t q, other c (2 * n + c) h q (inr (inr refl)), other c (2 * c) h q (inl refl), other c (2 * c + 1) h q (inr (inl refl)))
           (P .each c h)
+
+-- ---- what the words keep while prices are worked out
+
+-- marks stay those of ids below N, and the words past the marks stay as they are
+pub record Within (n N : ℕ) (s s′ : List ℕ) : Type 0 where
+  pub marks : MarksIn n N s → MarksIn n N s′
+  pub past : (i : ℕ) → 3 * n ≤ i → at s′ i ≡ at s i
+
+pub within-same : (n N : ℕ) (s : List ℕ) → Within n N s s
+within-same n N s = record { marks = λ h. h; past = λ i l. refl }
+
+pub within-then : {n N : ℕ} {a b c : List ℕ} → Within n N a b → Within n N b c → Within n N a c
+within-then A B = record { marks = λ h. B .marks (A .marks h); past = λ i l. B .past i l ∙ A .past i l }
+
+pub within-entry : (n N r : ℕ) (e : Entry) (s s′ : List ℕ) → length s ≡ 6 * n → r < n → e .mark ≤ N → Keeps n r e s s′ → Within n N s s′
+within-entry n N r e s s′ size hr le K = record {
+  marks = λ h c l. go h c l (eq-or c r);
+  past = λ i l. rw K (puts-miss (stores n r e) s i (omega arith));
+}
+  where
+    go : MarksIn n N s → (c : ℕ) → c < n → (c ≡ r) ⊎ (c ≢ r) → at s′ (2 * n + c) ≤ N
+    go h c l (inl q) = let z : at s′ (2 * n + r) ≡ e .mark = rw K (puts-hit (stores n r e) s 2 (omega arith) (omega arith) tt) in rw (q, z) le
+    go h c l (inr q) = let z : at s′ (2 * n + c) ≡ at s (2 * n + c) = rw K (puts-miss (stores n r e) s (2 * n + c) (omega arith)) in rw z (h c l)
 
 -- the three stores of `set_entry`
 pub kept : (n m r : ℕ) (e : Entry) (lo hi : ℕ) (ws ws1 ws2 ws3 : List ℕ) → lo ≡ e .price % 4294967296 → hi ≡ e .price / 4294967296

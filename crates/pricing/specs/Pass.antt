@@ -22,7 +22,7 @@ use Rattle.layout.specs.declared.Head.{Head}
 use Rattle.price.specs.Pass.{Table, accept, best, look, pass, turn}
 use Rattle.price.specs.Size.{AstSize}
 use Rattle.pricing.specs.Classed.{Classed, classed-lent}
-use Rattle.pricing.specs.Entries.{Prices}
+use Rattle.pricing.specs.Entries.{Prices, Within, within-same, within-then}
 use Rattle.pricing.specs.Turn.{Scratched, Took, Turns, scratched-then, taken-broken}
 use Rattle.pricing.specs.declared.Taken.{Taken}
 use Rattle.pricing.specs.declared.Taken.the-variants.{TakenBroken, TakenIs}
@@ -67,12 +67,14 @@ pass-all g C t =
 
 pub record Passes (h : Head) (ws : List ℕ) (r : Taken) (ws′ : List ℕ) : Type 0 where
   pub only : Scratched (h .n) (h .m) ws ws′
+  pub within : Within (h .n) (h .ids) (view (h .n) (h .m) ws .scratch) (view (h .n) (h .m) ws′ .scratch)
   pub law : (g : Graph) (t : Table ℕ) → Classed h (view (h .n) (h .m) ws) g → Prices (key-of g) (h .n) (view (h .n) (h .m) ws .scratch) t
       → Took g (h .n) (view (h .n) (h .m) ws′ .scratch) t (pass AstSize (class-nodes g) (class-roots g) t) r
 
 -- the ids below i have had their turn, and k entries were taken
 pub record Passing (h : Head) (i k : ℕ) (ws ws′ : List ℕ) : Type 0 where
   pub only : Scratched (h .n) (h .m) ws ws′
+  pub within : Within (h .n) (h .ids) (view (h .n) (h .m) ws .scratch) (view (h .n) (h .m) ws′ .scratch)
   pub law : (g : Graph) (t : Table ℕ) → Classed h (view (h .n) (h .m) ws) g → Prices (key-of g) (h .n) (view (h .n) (h .m) ws .scratch) t
       → Took g (h .n) (view (h .n) (h .m) ws′ .scratch) t (pass AstSize (class-nodes g) (upto i) t) (TakenIs k)
 
@@ -82,7 +84,7 @@ took-count {k = k} T = let z : T .count ≡ k = cc (T .is) in omega (arith, T .g
 module _ (h : Head) (ws : List ℕ) where
   pub passing-start : Passing h 0 0 ws ws
   unfolding pass upto
-  passing-start = record { only = lent-same ws tt; law = λ g t C P. record { count = 0; is = refl; prices = P; grown = omega arith } }
+  passing-start = record { only = lent-same ws tt; within = within-same (h .n) (h .ids) _; law = λ g t C P. record { count = 0; is = refl; prices = P; grown = omega arith } }
 
   module _ (i k : ℕ) (ws1 ws2 : List ℕ) (A : Passing h i k ws ws1) (r : Taken) (B : Turns h i ws1 r ws2) where
     -- the turn of id i, after those below it
@@ -93,6 +95,7 @@ module _ (h : Head) (ws : List ℕ) where
     pub passing-more : (j : ℕ) → r ≡ TakenIs j → Passing h (i + 1) (k + j) ws ws2
     passing-more j e = record {
       only = scratched-then (A .only) (B .only);
+      within = within-then (A .within) (B .within);
       law = λ g t C P. one g t (took-count (A .law g t C P)) (took g t C P);
     }
       where
@@ -106,11 +109,13 @@ module _ (h : Head) (ws : List ℕ) where
     pub pass-broken : r ≡ TakenBroken → Passes h ws TakenBroken ws2
     pass-broken e = record {
       only = scratched-then (A .only) (B .only);
+      within = within-then (A .within) (B .within);
       law = λ g t C P. let T = took g t C P in taken-broken (T .count) (sym e ∙ T .is);
     }
 
   pub pass-done : (i k : ℕ) (ws′ : List ℕ) → i ≡ h .ids → Passing h i k ws ws′ → Passes h ws (TakenIs k) ws′
   pass-done i k ws′ e A = record {
     only = A .only;
+    within = A .within;
     law = λ g t C P. let q : i ≡ ids g = e ∙ C .ids-are in rw (pass-all g C t, ← q) (A .law g t C P);
   }

@@ -23,7 +23,7 @@ use Rattle.price.specs.Pass.{Best, Table, accept, best, look, turn}
 use Rattle.price.specs.Size.{AstSize, cap}
 use Rattle.pricing.specs.Best.{BestOf, Means, more, no-more}
 use Rattle.pricing.specs.Classed.{Classed}
-use Rattle.pricing.specs.Entries.{EntryAt, Keeps, Names, Prices, entry-as, prices-more}
+use Rattle.pricing.specs.Entries.{EntryAt, Keeps, Names, Prices, Within, entry-as, prices-more, within-entry, within-same}
 use Rattle.pricing.specs.declared.Chosen.{Chosen}
 use Rattle.pricing.specs.declared.Chosen.the-variants.{ChosenBroken, ChosenIs}
 use Rattle.pricing.specs.declared.Entry.{Entry}
@@ -106,6 +106,7 @@ pub record Took (g : Graph) (n : ℕ) (ss : List ℕ) (t u : Table ℕ) (r : Tak
 
 pub record Turns (h : Head) (a : ℕ) (ws : List ℕ) (r : Taken) (ws′ : List ℕ) : Type 0 where
   pub only : Scratched (h .n) (h .m) ws ws′
+  pub within : Within (h .n) (h .ids) (view (h .n) (h .m) ws .scratch) (view (h .n) (h .m) ws′ .scratch)
   pub few : (k : ℕ) → r ≡ TakenIs k → k ≤ 1
   pub law : (g : Graph) (t : Table ℕ) → Classed h (view (h .n) (h .m) ws) g → Prices (key-of g) (h .n) (view (h .n) (h .m) ws .scratch) t
       → Took g (h .n) (view (h .n) (h .m) ws′ .scratch) t (turn AstSize (class-nodes g) a t) r
@@ -117,6 +118,7 @@ module _ (h : Head) (a : ℕ) (ws : List ℕ) (c : Chosen) (B : BestOf h a (view
   pub turn-broken : c ≡ ChosenBroken → Turns h a ws TakenBroken ws
   turn-broken e = record {
     only = lent-same ws tt;
+    within = within-same (h .n) (h .ids) _;
     few = λ k p. taken-broken k p;
     law = λ g t C P. let k = B .law g t C P in absurd (apart (k .0) (sym e ∙ k .1));
   }
@@ -137,6 +139,7 @@ module _ (h : Head) (a : ℕ) (ws : List ℕ) (c : Chosen) (B : BestOf h a (view
     unfolding turn
     turn-kept e = record {
       only = lent-same ws tt;
+      within = within-same (h .n) (h .ids) _;
       few = λ k p. let z : 0 ≡ k = cc in omega arith;
       law = λ g t C P. same g t P (A .no-law e (key-of g) (look a t) (best AstSize t (class-nodes g a)) (entry-as (key-of g) (h .n) _ t a old P ha E) (proposed g t C P) a t);
     }
@@ -150,6 +153,7 @@ module _ (h : Head) (a : ℕ) (ws : List ℕ) (c : Chosen) (B : BestOf h a (view
     unfolding turn
     turn-taken ws′ ok e K = record {
       only = lent-map (λ s s′ p. tt) K;
+      within = within-entry (h .n) (h .ids) a new _ _ (get-length scratch (h .n) (h .m) ws ok) ha (B .low new is) (K .did);
       few = λ k p. let z : 1 ≡ k = cc in omega arith;
       law = λ g t C P. one g t P (A .yes-law e (key-of g) (look a t) (best AstSize t (class-nodes g a)) (entry-as (key-of g) (h .n) _ t a old P ha E) (proposed g t C P));
     }

@@ -150,7 +150,7 @@ fn choose(best: Entry, price: u64, id: usize) -> Entry
 // The node of an id is looked at, where `best` is the best of those behind it.
 fn better(ws: &[u32], h: Head, id: usize, best: Entry) -> Chosen
     requires { ⌜ HeadOk (length (now ws)) h ⌝ }
-    requires { ⌜ (id < h .n) × (best .mark ≤ h .n) ⌝ }
+    requires { ⌜ (id < h .ids) × (best .mark ≤ h .ids) ⌝ }
     ensures { λ r. ⌜ Betters h id best (view (h .n) (h .m) (now (ws .entry))) r ⌝ }
 {
     let got = parts::on_rows::key(ws, h, Id(id as u32));
@@ -176,6 +176,7 @@ fn class_best(ws: &[u32], h: Head, r: usize) -> Chosen
     ensures { λ o. ⌜ BestOf h r (view (h .n) (h .m) (now (ws .entry))) o ⌝ }
 {
     let n = h.n;
+    let ids = h.ids;
     let k = parts::on_members::len(ws, h, r);
     if n < k {
         return Chosen::ChosenBroken;
@@ -184,7 +185,7 @@ fn class_best(ws: &[u32], h: Head, r: usize) -> Chosen
     let mut id = parts::on_members::last(ws, h, r);
     let mut left = k;
     while 0 < left {
-        if n <= id {
+        if ids <= id {
             return Chosen::ChosenBroken;
         }
         let Chosen::ChosenIs(e) = better(ws, h, id, best) else {

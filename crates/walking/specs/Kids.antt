@@ -20,7 +20,7 @@ use Rattle.layout.specs.declared.Head.{Head}
 use Rattle.price.specs.Listing.{Listing, spot}
 use Rattle.price.specs.Pass.{Best, Table, look}
 use Rattle.pricing.specs.Classed.{Classed}
-use Rattle.pricing.specs.Entries.{As, EntryAt, Names, Prices, entry-as}
+use Rattle.pricing.specs.Entries.{EntryAt, MarksIn, Names, Prices, entry-as}
 use Rattle.pricing.specs.Laid.{place-word}
 use Rattle.pricing.specs.Node.{KidsIn}
 use Rattle.pricing.specs.declared.Entry.{Entry}
@@ -35,10 +35,6 @@ use Rattle.walking.specs.declared.NextKid.the-variants.{NextKidBroken, N
 -- the place words of the classes below n are those of the listing l
 abbrev pub Placed : ℕ → List ℕ → Listing → Type 0
 Placed n ss l = (c : ℕ) → c < n → at ss (3 * n + c) ≡ place-word (spot c l)
-
--- every mark is 0, or 1 and an id below N
-abbrev pub MarksIn : ℕ → ℕ → List ℕ → Type 0
-MarksIn n N ss = (c : ℕ) → c < n → at ss (2 * n + c) ≤ N
 
 -- a child, or none
 abbrev pub told : Option ℕ → NextKid

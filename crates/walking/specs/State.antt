@@ -22,9 +22,8 @@ use Rattle.price.specs.Listing.{Listing, spot}
 use Rattle.price.specs.Pass.{Table}
 use Rattle.price.specs.Shown.{Fine, spot-here, spot-past}
 use Rattle.price.specs.Size.{AstSize}
-use Rattle.pricing.specs.Entries.{Prices}
+use Rattle.pricing.specs.Entries.{MarksIn, Prices}
 use Rattle.pricing.specs.Laid.{Laid, class-at, place-word}
-use Rattle.walking.specs.Kids.{MarksIn}
 use Rattle.walking.specs.Way.{Way}
 
 -- ---- the stack

@@ -12,10 +12,10 @@ use Rattle.parts.proofs.on_members.link.Reads as link-reads
 use Rattle.pricing.proofs.better.Reads as better-reads
 
 abbrev Inv-loop : tie.InvT-loop
-Inv-loop ws h r n k best₀ id₀ left₀ best id left = Walking h r (view (h .n) (h .m) ws) left id best
+Inv-loop ws h r n ids k best₀ id₀ left₀ best id left = Walking h r (view (h .n) (h .m) ws) left id best
 
 abbrev μ-loop : tie.MeasureT-loop
-μ-loop ws h r n k best₀ id₀ left₀ best id left = left
+μ-loop ws h r n ids k best₀ id₀ left₀ best id left = left
 
 -- src/lib.rt:175:9
 len-requires : tie.Need-len-requires Inv-loop μ-loop

@@ -40,7 +40,7 @@ accepts-requires c κs = search needs
 
 -- src/lib.rt:226:9
 set-entry-requires : tie.Need-set-entry-requires
-set-entry-requires c κs = (c .before .before .before .before .before .before .before .before .before .before .before .pre .0, (c .before .before .before .before .before .before .before .before .before .before .before .pre .1, omega (arith, (c .before .before .before .before .before .before .before .before .class-best .ensures .low _ (c .before .before .before .before .before .before .best .given .1)), (c .before .before .before .before .before .before .before .before .before .before .before .pre .0 .n-high))))
+set-entry-requires c κs = (c .before .before .before .before .before .before .before .before .before .before .before .pre .0, (c .before .before .before .before .before .before .before .before .before .before .before .pre .1, omega (arith, (c .before .before .before .before .before .before .before .before .class-best .ensures .low _ (c .before .before .before .before .before .before .best .given .1)), (c .before .before .before .before .before .before .before .before .before .before .before .pre .0 .ids-in), (c .before .before .before .before .before .before .before .before .before .before .before .pre .0 .n-high))))
 
 -- src/lib.rt:227:9
 same-length-2 : tie.Need-same-length-2
