@@ -7,12 +7,13 @@ use mathlib.Core.Option.{some}
 use mathlib.Core.Path.{_∙_, _≡_, ap, refl, sym}
 use Prim.Native.Nat.{_*_, _+_, _<_, _≤_, ℕ}
 use native.Mathlib.Omega.{arith}
-use lib.ListN.{length}
+use lib.ListN.{length, replicate}
 use Rattle.lists.specs.Options.{none≢some}
-use Rattle.lists.specs.Reads.{at}
+use Rattle.lists.specs.Reads.{at, getD-copies}
 use Rattle.lists.specs.Stores.{puts-hit, puts-miss}
 use Rattle.steps.specs.Classes.{class-nodes, class-roots}
 use Rattle.steps.specs.Graph.{Graph}
+use Rattle.cells.specs.declared.Change.{Change}
 use Rattle.layout.specs.Cut.{scratch}
 use Rattle.layout.specs.Head.{HeadOk}
 use Rattle.layout.specs.Idle.{lent-same}
@@ -26,7 +27,8 @@ use Rattle.price.specs.Pass.{Best, Table, look}
 use Rattle.price.specs.Shown.{Fine}
 use Rattle.price.specs.Size.{AstSize}
 use Rattle.pricing.specs.Classed.{Classed, classed-lent}
-use Rattle.pricing.specs.Entries.{Prices}
+use Rattle.pricing.specs.Costs.{FindsCosts}
+use Rattle.pricing.specs.Entries.{Prices, prices-none}
 use Rattle.pricing.specs.Laid.{Laid}
 use Rattle.walking.specs.State.{Behind, Standing, laid-kept, laid-none, prices-kept}
 use Rattle.walking.specs.Step.{Steps}
@@ -178,3 +180,15 @@ module _ (h : Head) (r : ℕ) (ws ws1 : List ℕ) (ok : HeadOk (length ws) h) (T
     few = W .few;
     law = λ g C R. W .law g (table AstSize g) (backs g) (ranks g) (listing g (table AstSize g) r) (classed-lent T C) (stand-start g C R);
   }
+
+-- ---- after the passes
+
+-- what `find_costs` leaves of a scratch part that was 0
+pub ready : (h : Head) (ws ws1 : List ℕ) (o : Change) → FindsCosts h ws o ws1 → (g : Graph) → Classed h (view (h .n) (h .m) ws) g → view (h .n) (h .m) ws .scratch ≡ replicate (6 * h .n) 0
+    → (r : ℕ) (b : Best ℕ) → look r (table AstSize g) ≡ some b → Ready h g r (view (h .n) (h .m) ws1 .scratch)
+ready h ws ws1 o F g C z r b e = record {
+  prices = F .law g C (rw z (prices-none g (h .n) (6 * h .n))) .1;
+  unplaced = λ c l. F .only .did (3 * h .n + c) (omega arith) ∙ rw z (getD-copies (6 * h .n) (3 * h .n + c) 0);
+  best = b;
+  entry = e;
+}
