@@ -26,7 +26,7 @@ use Rattle.forming.specs.declared.FormLength.the-variants.{FormLengthBroken, Fo
 use Rattle.holds.specs.Holds.{Holds}
 use Rattle.holds.specs.HoldsLaws.{holds-in}
 use Rattle.layout.specs.Cut.{scratch}
-use Rattle.layout.specs.Head.{HeadIs, HeadOk}
+use Rattle.layout.specs.Head.{HeadIs}
 use Rattle.layout.specs.Lent.{Lent, lent-head, lent-map, lent-twice}
 use Rattle.layout.specs.View.{View, hd, view}
 use Rattle.layout.specs.declared.Head.{Head}

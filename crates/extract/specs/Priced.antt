@@ -27,7 +27,7 @@ use Rattle.layout.specs.declared.Head.{Head}
 use Rattle.price.specs.Extract.{table}
 use Rattle.price.specs.Pass.{Best, look}
 use Rattle.price.specs.Size.{AstSize}
-use Rattle.pricing.specs.Classed.{Classed, KidsKnown, classed}
+use Rattle.pricing.specs.Classed.{KidsKnown, classed}
 use Rattle.pricing.specs.Costs.{FindsCosts}
 use Rattle.pricing.specs.Entries.{As, EntryAt, Prices, entry-as, prices-none}
 use Rattle.pricing.specs.Turn.{Scratched}

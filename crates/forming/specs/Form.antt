@@ -10,8 +10,7 @@ use native.Mathlib.Omega.{arith}
 use lib.ListN.{length, take}
 use lib.Seq.{take-length, take-suc}
 use Rattle.language.specs.Struct.{nodeOf}
-use Rattle.language.specs.Term.{Term, places, spell, term-at, words}
-use Rattle.language.specs.declared.Node.{Node}
+use Rattle.language.specs.Term.{Term, places, spell, words}
 use Rattle.steps.specs.Graph.{Graph, node}
 use Rattle.eclass.specs.Pieces.{Wrote, long-more, pieces, pieces-more, pieces-next, pieces-none, pieces-room, wrote}
 use Rattle.layout.specs.View.{View}

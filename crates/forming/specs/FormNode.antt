@@ -12,15 +12,15 @@ use Rattle.lists.specs.Members.{mem-at}
 use Rattle.lists.specs.Reads.{at, map-at}
 use Rattle.language.specs.Struct.{nodeOf}
 use Rattle.language.specs.Term.{Term, over-kids, places, term-path, words}
-use Rattle.steps.specs.Graph.{Graph, ids, key-of, node}
+use Rattle.steps.specs.Graph.{Graph, ids, node}
 use Rattle.layout.specs.Lent.{Loaded}
 use Rattle.layout.specs.View.{View}
 use Rattle.layout.specs.declared.Head.{Head}
 use Rattle.price.specs.Listing.{Listing, in-order, or-zero, spot, spot-of, with-places}
-use Rattle.price.specs.Pass.{Best, Table, look}
+use Rattle.price.specs.Pass.{Table}
 use Rattle.price.specs.Shown.{in-order-at}
 use Rattle.pricing.specs.Classed.{Classed}
-use Rattle.pricing.specs.Entries.{As, Names, Prices, joined}
+use Rattle.pricing.specs.Entries.{Names, Prices, joined}
 use Rattle.pricing.specs.Laid.{Laid, class-at, place-word}
 use Rattle.rows.specs.Determined.{read-key, sane}
 use Rattle.rows.specs.Promise.{Key}
@@ -28,10 +28,10 @@ use Rattle.rows.specs.Read.{Sane, key-read, sane-test}
 use Rattle.rows.specs.declared.Fetch.{Fetch}
 use Rattle.rows.specs.declared.Fetch.the-variants.{FetchBroken, FetchDone}
 use Rattle.rows.specs.declared.Fetched.{Fetched}
-use Rattle.forming.specs.Kept.{AllListed, AtPlace, Kept}
+use Rattle.forming.specs.Kept.{AtPlace, Kept}
 use Rattle.forming.specs.Placed.{HasPlace, KidsPlaced, NoNode, WithPlaces, not-done, place-at}
 use Rattle.forming.specs.declared.Placed.{Placed}
-use Rattle.forming.specs.declared.Placing.the-variants.{PlacingBroken, PlacingDone}
+use Rattle.forming.specs.declared.Placing.the-variants.{PlacingDone}
 
 -- ---- on any words
 

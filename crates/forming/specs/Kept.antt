@@ -1,7 +1,7 @@
 -- A listing seen from its end: at each place stands the node that the table chose for the class there, and its children are places of that very listing. A listing only
 -- grows, and a place once given stays: so what was true when a class was listed is true of the listing that is left.
 -- Assumes nothing.
-use mathlib.Core.List.{List, [], _∷_, map}
+use mathlib.Core.List.{List, [], _∷_}
 use mathlib.Core.Logic.{_≢_, _⊎_, inl, inr}
 use mathlib.Core.Option.{Option, none, some}
 use mathlib.Core.Path.{_∙_, _≡_, ap, refl, sym}
@@ -11,7 +11,7 @@ use native.Mathlib.Omega.{arith}
 use lib.ListN.{length}
 use Rattle.lists.specs.Members.{Mem, here, mem-at, there}
 use Rattle.lists.specs.Reads.{at, map-at}
-use Rattle.lists.specs.Tests.{eq-or, when, when-no, when-yes}
+use Rattle.lists.specs.Tests.{eq-or, when-no, when-yes}
 use Rattle.language.specs.Term.{Term, term-path}
 use Rattle.price.specs.Chosen.{Backed, Deep, Ranked, no-circle}
 use Rattle.price.specs.Listing.{Listing, cheapest, each, enter, entry, or-zero, spot, spot-of, visit, with-places}

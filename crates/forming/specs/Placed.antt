@@ -16,7 +16,6 @@ use Rattle.language.specs.Term.{Term, over-kids, places, rekid, term-path}
 use Rattle.language.specs.declared.Node.{Node}
 use Rattle.layout.specs.Lent.{Loaded}
 use Rattle.forming.specs.declared.Placed.{Placed}
-use Rattle.forming.specs.declared.Placing.{Placing}
 use Rattle.forming.specs.declared.Placing.the-variants.{PlacingBroken, PlacingDone}
 
 -- the place of class c

@@ -3,12 +3,11 @@
 -- never. No word of the graph changes where the scratch part was 0, and two outcomes are one.
 -- Assumes nothing.
 use mathlib.Core.Bool.{true}
-use mathlib.Core.List.{List, [], _++_, _∷_}
+use mathlib.Core.List.{List, _++_}
 use mathlib.Core.Logic.{_⊎_, inl, inr}
 use mathlib.Core.Option.{Option, none, some}
-use mathlib.Core.Path.{_∙_, _≡_, ap, refl, subst, sym}
+use mathlib.Core.Path.{_∙_, _≡_, ap, subst, sym}
 use Prim.Native.Nat.{_*_, _<_, _≤_, min, suc, ℕ}
-use native.Mathlib.Omega.{arith}
 use lib.ListN.{drop, length, replicate, take, take-append-drop}
 use Rattle.lists.specs.Tests.{lt-or}
 use Rattle.language.specs.Term.{Term, spell}
@@ -25,7 +24,7 @@ use Rattle.layout.specs.Whole.{view-whole}
 use Rattle.price.specs.Extract.{Form-of, listing, table}
 use Rattle.price.specs.Form.{Form, In, in-map}
 use Rattle.price.specs.Listing.{Stands-at, in-order}
-use Rattle.price.specs.Pass.{Best, look}
+use Rattle.price.specs.Pass.{Best}
 use Rattle.price.specs.Shown.{entry-lt, in-order-at, in-order-length}
 use Rattle.price.specs.Size.{AstSize, Least-size, ast-size, cap, size-least, size-listed}
 use Rattle.pricing.specs.Classed.{KidsKnown}

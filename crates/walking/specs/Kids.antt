@@ -1,7 +1,7 @@
 -- The next child by the words: `first_unlisted` promises what `unlisted` of Way says of a node's children, by the place words in the scratch part, and `next_kid` the
 -- same of the node that the mark of a class names.
 -- Assumes nothing.
-use mathlib.Core.List.{List, [], _∷_}
+use mathlib.Core.List.{List}
 use mathlib.Core.Logic.{_≢_}
 use mathlib.Core.Option.{Option, none, some}
 use mathlib.Core.Path.{_∙_, _≡_, ap, refl, subst, sym}

@@ -3,16 +3,15 @@
 -- Assumes nothing.
 use mathlib.Core.List.{List, [], _∷_}
 use mathlib.Core.Logic.{_≢_, _⊎_, inl, inr}
-use mathlib.Core.Option.{Option, none, some}
-use mathlib.Core.Path.{_∙_, _≡_, ap, refl, subst, sym}
-use Prim.Native.Nat.{_*_, _+_, _-_, _<_, _≤_, suc, ℕ}
+use mathlib.Core.Option.{none}
+use mathlib.Core.Path.{_∙_, _≡_, sym}
+use Prim.Native.Nat.{_*_, _+_, _<_, suc, ℕ}
 use native.Mathlib.Decide.{ℕ-discrete}
 use native.Mathlib.Omega.{arith}
-use lib.ListN.{length, set}
-use Rattle.lists.specs.Members.{Mem}
+use lib.ListN.{length}
 use Rattle.lists.specs.Reads.{at}
 use Rattle.lists.specs.Stores.{puts, puts-hit, puts-miss}
-use Rattle.lists.specs.Tests.{eq-or, when, when-no, when-yes}
+use Rattle.lists.specs.Tests.{eq-or, when-no, when-yes}
 use Rattle.language.specs.Term.{Term}
 use Rattle.steps.specs.Classes.{class-nodes, class-roots}
 use Rattle.steps.specs.Graph.{Graph}

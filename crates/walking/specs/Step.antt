@@ -15,7 +15,7 @@ use Rattle.lists.specs.Stores.{puts, puts-hit, puts-miss}
 use Rattle.steps.specs.Classes.{class-nodes, class-roots}
 use Rattle.steps.specs.Graph.{Graph, ids, root}
 use Rattle.closure.specs.Listed.{roots-from}
-use Rattle.layout.specs.Cut.{need, scratch}
+use Rattle.layout.specs.Cut.{scratch}
 use Rattle.layout.specs.Head.{HeadOk}
 use Rattle.layout.specs.Idle.{lent-same}
 use Rattle.layout.specs.Lent.{Lent, Loaded, Stored, lent-map, lent-twice}
@@ -27,7 +27,7 @@ use Rattle.price.specs.Pass.{Table}
 use Rattle.price.specs.Shown.{Fine}
 use Rattle.price.specs.Size.{AstSize}
 use Rattle.pricing.specs.Classed.{Classed}
-use Rattle.walking.specs.Kids.{NextKidOf, broken-is, told}
+use Rattle.walking.specs.Kids.{NextKidOf, told}
 use Rattle.walking.specs.State.{Behind, Stacked, Standing, laid-kept, laid-more, listing-stores, prices-kept, stacked-kept}
 use Rattle.walking.specs.Way.{Top, Way, few-listed, fine-list, in-roots, unlisted, way-list, way-push, way-top}
 use Rattle.walking.specs.declared.NextKid.{NextKid}

@@ -6,14 +6,13 @@ use mathlib.Core.List.{List, [], _∷_}
 use mathlib.Core.Logic.{_≢_, _⊎_, inl, inr}
 use mathlib.Core.Option.{Option, none, some}
 use mathlib.Core.Path.{_∙_, _≡_, ap, refl, subst, sym}
-use Prim.Native.Nat.{_+_, _<_, _≤_, suc, zero, ℕ}
+use Prim.Native.Nat.{_+_, _≤_, suc, zero, ℕ}
 use native.Mathlib.Omega.{arith}
 use lib.ListN.{length}
-use Rattle.lists.specs.Members.{Mem, here, mem-cases, mem-nil, minus, minus-has, minus-lt, there}
+use Rattle.lists.specs.Members.{Mem, here, minus, minus-has, minus-lt, there}
 use Rattle.lists.specs.Options.{none≢some, some-inj}
-use Rattle.lists.specs.Tests.{when}
 use Rattle.language.specs.Term.{Term}
-use Rattle.price.specs.Chosen.{Backed, Deep, Ranked, Sooner-in, no-circle, sooner-in-self, sooner-in-trans}
+use Rattle.price.specs.Chosen.{Backed, Deep, Ranked, Sooner-in, sooner-in-self, sooner-in-trans}
 use Rattle.price.specs.Listing.{Listing, Once, cheapest, each, enter, spot, visit, with-places}
 use Rattle.price.specs.Pass.{Best, Table, look}
 use Rattle.price.specs.Rule.{Rule}

@@ -1,17 +1,12 @@
 use mathlib.Core.Path.{_≡_}
 use Prim.Native.Nat.{_-_, _≤_}
 use native.Mathlib.Omega.{arith}
-use borrow.Author.Needs.{needs}
 use Rattle.eclass.specs.Pieces.{Wrote, pieces, pieces-start}
 use Rattle.layout.specs.View.{view}
 use Rattle.forming.specs.Form.{put-next, put-room}
 use Rattle.forming.specs.FormNode.{form-piece}
 use Rattle.forming.proofs.put_form.Statement.{statement}
 use Rattle.forming.proofs.put_form.Tie as tie
-use Rattle.forming.proofs.put_form.Reads as reads
-use Rattle.forming.proofs.put_form.Lts as lts
-use Rattle.forming.proofs.form_node.Reads as form-node-reads
-use Rattle.spelling.proofs.put_node.Reads as put-node-reads
 
 abbrev Inv-loop : tie.InvT-loop
 Inv-loop ws h k out₀ at₀ p₀ out at p = (p ≤ k) × Wrote out₀ 0 (pieces (form-piece (view (h .n) (h .m) ws .rows) (view (h .n) (h .m) ws .scratch) (h .n) (h .m)) p) at out
@@ -19,35 +14,21 @@ Inv-loop ws h k out₀ at₀ p₀ out at p = (p ≤ k) × Wrote out₀ 0 (pieces
 abbrev μ-loop : tie.MeasureT-loop
 μ-loop ws h k out₀ at₀ p₀ out at p = k - p
 
--- src/lib.rt:170:5
 loop-holds : tie.Need-loop-holds Inv-loop μ-loop
 loop-holds c = (omega arith, pieces-start _ _)
 
--- src/lib.rt:171:13
 form-node-requires : tie.Need-form-node-requires Inv-loop μ-loop
 form-node-requires c κs = ((c .before .before .before .before .pre .0), omega (arith, (c .before .before .before .before .pre .1 .0)))
 
--- src/lib.rt:172:9
 put-node-requires : tie.Need-put-node-requires Inv-loop μ-loop
 put-node-requires c κs = ((c .before .form-node .ensures .few), put-room _ _ _ _ _ _ (c .before .form-node .ensures) (c .before .before .before .before .before .before .pre .1 .1 .0 (c .before .before .before .loop .p) (omega arith)) _ _ _ (c .before .before .before .loop .inv .1) _ (omega arith) (c .before .before .before .before .before .before .pre .1 .1 .1))
 
--- src/lib.rt:173:9
-add-p : tie.Need-add-p Inv-loop μ-loop
-add-p c = omega arith
-
--- src/lib.rt:170:5
-loop-less : tie.Need-loop-less Inv-loop μ-loop
-loop-less c = omega arith
-
--- src/lib.rt:170:5
 loop-again : tie.Need-loop-again Inv-loop μ-loop
 loop-again c = (omega arith, put-next _ _ _ _ _ _ (c .before .before .before .before .form-node .ensures) (c .before .before .before .before .before .before .before .before .before .pre .1 .1 .0 (c .before .before .before .before .before .before .loop .p) (omega arith)) _ _ _ (c .before .before .before .before .before .before .loop .inv .1) _ _ (c .before .before .put-node .ensures))
 
--- src/lib.rt:161:1
 same-length : tie.Need-same-length Inv-loop μ-loop
 same-length c = (c .before .loop .inv .1 .size)
 
--- src/lib.rt:161:1
 returns : tie.Need-returns Inv-loop μ-loop
 returns c = let e : (c .before .loop .p) ≡ (c .before .before .before .before .args .k) = omega arith in rw e at (c .before .loop .inv .1)
 
@@ -60,8 +41,8 @@ put-form-spec =
     loop-holds
     form-node-requires
     put-node-requires
-    add-p
-    loop-less
+    (λ c. omega arith)
+    (λ c. omega arith)
     loop-again
     same-length
     returns)

@@ -8,13 +8,6 @@ use Rattle.layout.specs.View.{view}
 use Rattle.forming.specs.Placed.{Partway, partway-none, partway-more, places-done, places-none, places-stray}
 use Rattle.forming.proofs.with_places.Statement.{statement}
 use Rattle.forming.proofs.with_places.Tie as tie
-use Rattle.forming.proofs.with_places.Reads as reads
-use Rattle.forming.proofs.with_places.Lts as lts
-use Rattle.forming.proofs.no_node.Reads as no-node-reads
-use Rattle.forming.proofs.wide.Reads as wide-reads
-use Rattle.language.proofs.Node.child.Reads as child-reads
-use Rattle.language.proofs.Node.with_child.Reads as with-child-reads
-use Rattle.layout.proofs.scratch.Reads as scratch-reads
 
 abbrev Inv-loop : tie.InvT-loop
 Inv-loop ws h n k y₀ i₀ y i = (i ≤ k) × (y .count ≡ y₀ .count) × Partway (h .n) (view (h .n) (h .m) ws .scratch) i (nodeOf y₀) (nodeOf y)
@@ -22,27 +15,9 @@ Inv-loop ws h n k y₀ i₀ y i = (i ≤ k) × (y .count ≡ y₀ .count) × Par
 abbrev μ-loop : tie.MeasureT-loop
 μ-loop ws h n k y₀ i₀ y i = k - i
 
--- src/lib.rt:70:9
-wide-requires : tie.Need-wide-requires Inv-loop μ-loop
-wide-requires c κs = search needs
-
--- src/lib.rt:73:5
 loop-holds : tie.Need-loop-holds Inv-loop μ-loop
 loop-holds c = (omega arith, refl, partway-none _ _ _)
 
--- src/lib.rt:74:22
-child-requires : tie.Need-child-requires Inv-loop μ-loop
-child-requires c κs = search needs
-
--- src/lib.rt:74:13
-wide-requires-2 : tie.Need-wide-requires-2 Inv-loop μ-loop
-wide-requires-2 c κs = search needs
-
--- src/lib.rt:76:13
-no-node-requires : tie.Need-no-node-requires Inv-loop μ-loop
-no-node-requires c κs = search needs
-
--- src/lib.rt:76:13
 returns : tie.Need-returns Inv-loop μ-loop
 returns c =
     let x = (c .before .before .before .before .before .before .before .before .args .node) in
@@ -50,23 +25,6 @@ returns c =
     let w = (c .before .before .before .before .before .before .wide .ensures .0) in
     places-stray _ _ _ (c .before .before .before .before .before .loop .i) _ _ (c .before .before .before .before .before .loop .inv .2) (omega (arith, (c .before .before .before .before .loop-test .taken))) ((c .before .before .wide2 .ensures .0) ∙ (c .before .before .before .child .ensures)) (c .before .if1 .taken) _ (c .no-node .ensures)
 
--- src/lib.rt:78:44
-mul-scratch : tie.Need-mul-scratch Inv-loop μ-loop
-mul-scratch c = search needs
-
--- src/lib.rt:78:44
-add-scratch : tie.Need-add-scratch Inv-loop μ-loop
-add-scratch c = search needs
-
--- src/lib.rt:78:13
-scratch-requires : tie.Need-scratch-requires Inv-loop μ-loop
-scratch-requires c κs = search needs
-
--- src/lib.rt:80:13
-no-node-requires-2 : tie.Need-no-node-requires-2 Inv-loop μ-loop
-no-node-requires-2 c κs = search needs
-
--- src/lib.rt:80:13
 returns-2 : tie.Need-returns-2 Inv-loop μ-loop
 returns-2 c =
     let x = (c .before .before .before .before .before .before .before .before .before .before .args .node) in
@@ -74,27 +32,6 @@ returns-2 c =
     let w = (c .before .before .before .before .before .before .before .before .wide .ensures .0) in
     places-none _ _ _ (c .before .before .before .before .before .before .before .loop .i) _ _ (c .before .before .before .before .before .before .before .loop .inv .2) (omega (arith, (c .before .before .before .before .before .before .loop-test .taken))) ((c .before .before .before .before .wide2 .ensures .0) ∙ (c .before .before .before .before .before .child .ensures)) _ (c .before .before .scratch .ensures) (c .before .if2 .taken) _ (c .no-node2 .ensures)
 
--- src/lib.rt:82:33
-sub-t14 : tie.Need-sub-t14 Inv-loop μ-loop
-sub-t14 c = search needs
-
--- src/lib.rt:82:32
-cast-t15 : tie.Need-cast-t15 Inv-loop μ-loop
-cast-t15 c = search needs
-
--- src/lib.rt:82:9
-with-child-requires : tie.Need-with-child-requires Inv-loop μ-loop
-with-child-requires c κs = search needs
-
--- src/lib.rt:83:9
-add-i : tie.Need-add-i Inv-loop μ-loop
-add-i c = search needs
-
--- src/lib.rt:73:5
-loop-less : tie.Need-loop-less Inv-loop μ-loop
-loop-less c = search needs
-
--- src/lib.rt:73:5
 loop-again : tie.Need-loop-again Inv-loop μ-loop
 loop-again c =
     let x = (c .before .before .before .before .before .before .before .before .before .before .args .node) in
@@ -102,7 +39,6 @@ loop-again c =
     let w = (c .before .before .before .before .before .before .before .before .wide .ensures .0) in
     (omega arith, omega (arith, (c .with-child .ensures .0)), partway-more _ _ _ (c .before .before .before .before .before .before .before .loop .i) _ _ (c .before .before .before .before .before .before .before .loop .inv .2) (omega (arith, (c .before .before .before .before .before .before .loop-test .taken))) ((c .before .before .before .before .wide2 .ensures .0) ∙ (c .before .before .before .before .before .child .ensures)) _ (c .before .before .scratch .ensures) _ (omega (arith, (c .before .before .before .if1 .left))) (c .before .if2 .left) (c .with-child .ensures .1))
 
--- src/lib.rt:64:1
 returns-3 : tie.Need-returns-3 Inv-loop μ-loop
 returns-3 c =
     let x = (c .before .before .before .before .args .node) in
@@ -116,21 +52,21 @@ with-places-spec =
     (tie.spec
     Inv-loop
     μ-loop
-    wide-requires
+    (λ c κs. search needs)
     loop-holds
-    child-requires
-    wide-requires-2
-    no-node-requires
+    (λ c κs. search needs)
+    (λ c κs. search needs)
+    (λ c κs. search needs)
     returns
-    mul-scratch
-    add-scratch
-    scratch-requires
-    no-node-requires-2
+    (λ c. search needs)
+    (λ c. search needs)
+    (λ c κs. search needs)
+    (λ c κs. search needs)
     returns-2
-    sub-t14
-    cast-t15
-    with-child-requires
-    add-i
-    loop-less
+    (λ c. search needs)
+    (λ c. search needs)
+    (λ c κs. search needs)
+    (λ c. search needs)
+    (λ c. search needs)
     loop-again
     returns-3)

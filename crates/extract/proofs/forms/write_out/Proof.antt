@@ -3,40 +3,16 @@ use Rattle.extract.specs.Form.{write-broken, write-done, write-fit, writ
 use borrow.Author.Needs.{needs}
 use Rattle.extract.proofs.forms.write_out.Statement.{statement}
 use Rattle.extract.proofs.forms.write_out.Tie as tie
-use Rattle.extract.proofs.forms.write_out.Reads as reads
-use Rattle.extract.proofs.forms.write_out.Lts as lts
-use Rattle.forming.proofs.measure_form.Reads as measure-form-reads
-use Rattle.forming.proofs.put_form.Reads as put-form-reads
 
--- src/forms.rt:39:48
-measure-form-requires : tie.Need-measure-form-requires
-measure-form-requires c κs = search needs
-
--- src/forms.rt:39:43
-enum-known-x : tie.Need-enum-known-x
-enum-known-x c = search needs
-
--- src/forms.rt:40:36
-enum-told : tie.Need-enum-told
-enum-told c = search needs
-
--- src/forms.rt:40:9
 returns : tie.Need-returns
 returns c = write-broken _ _ _ _ _ (c .before .before .before .before .before .pre .0 .ok .ids-in) _ (c .before .before .measure-form .ensures) (c .enum-told .given .1)
 
--- src/forms.rt:43:9
 returns-2 : tie.Need-returns-2
 returns-2 c = write-long _ _ _ _ _ (c .before .before .before .before .before .before .before .pre .0 .ok .ids-in) _ (c .before .before .before .before .measure-form .ensures) _ (c .before .before .x .given .1) (c .if1 .taken)
 
--- src/forms.rt:45:30
 put-form-requires : tie.Need-put-form-requires
 put-form-requires c κs = ((c .before .before .before .before .before .before .before .before .pre .0 .ok), ((c .before .before .before .before .before .before .before .before .pre .1), ((c .before .before .before .before .before .measure-form .ensures .fine _ (c .before .before .before .x .given .1)), write-fit (c .before .before .before .before .before .before .before .before .args .h) (c .before .before .before .before .before .before .before .before .args .size) _ _ (c .before .before .before .before .before .before .before .before .args .out .now) (c .before .before .before .before .before .before .before .before .pre .0 .ok .ids-in) _ (c .before .before .before .before .before .measure-form .ensures) _ (c .before .before .before .x .given .1) (omega arith))))
 
--- src/forms.rt:34:1
-same-length : tie.Need-same-length
-same-length c = search needs
-
--- src/forms.rt:34:1
 returns-3 : tie.Need-returns-3
 returns-3 c = write-done _ _ _ _ _ (c .before .before .before .before .before .before .before .before .before .before .before .pre .0 .ok .ids-in) _ (c .before .before .before .before .before .before .before .before .measure-form .ensures) _ (c .before .before .before .before .before .before .x .given .1) (omega arith) _ _ (c .before .before .put-form .ensures)
 
@@ -44,11 +20,11 @@ pub write-out-spec : {M : Type 1} → statement M
 write-out-spec =
     tie.close
     (tie.spec
-    measure-form-requires
-    enum-known-x
-    enum-told
+    (λ c κs. search needs)
+    (λ c. search needs)
+    (λ c. search needs)
     returns
     returns-2
     put-form-requires
-    same-length
+    (λ c. search needs)
     returns-3)
