@@ -1,1 +1,3 @@
+pub mod Priced
 pub mod Cost
+pub mod Form

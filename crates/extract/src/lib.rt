@@ -1,4 +1,4 @@
-// Sizes of classes, with AstSize: egg's `Extractor` over words that the caller lends. The graph is read through its promises: the head, the root that `find` answers,
+// Sizes of classes and cheapest forms, with AstSize: egg's `Extractor` over words that the caller lends. The graph is read through its promises: the head, the root that `find` answers,
 // and the nodes of each class, by which `pricing` works the prices out in the scratch part. That part is set to 0 before the work and after it.
 ghost use mathlib.Core.Bool.{true};
 ghost use mathlib.Core.Path.{_≡_};
@@ -6,11 +6,18 @@ ghost use Prim.Native.Nat.{_<_};
 ghost use lib.ListN.{length};
 ghost use Rattle.layout.specs.Head.{HeadIs};
 ghost use Rattle.layout.specs.View.{hd};
+ghost use Rattle.extract.specs.Priced.{PricesClass};
 ghost use Rattle.extract.specs.Cost.{CostOpen, CostSays, WorksOut};
 use cells::Change;
 use egraph::Refusal;
 use language::Id;
 use layout::Head;
+
+// A class, by its root, and its price; broken are words that no calls could have produced.
+pub enum Priced {
+    PricedIs(usize, u64),
+    PricedBroken,
+}
 
 // A size.
 pub enum CostAnswer {
@@ -18,27 +25,51 @@ pub enum CostAnswer {
     CostNot(Refusal),
 }
 
-// The size of the class of an id, from a scratch part that is 0, and is left with the prices.
+// A size, and how many words of a form were written.
+pub enum FormAnswer {
+    FormIs(u64, usize),
+    FormNot(Refusal),
+}
+
+// A size, and how many classes are listed; broken are words that no calls could have produced.
+pub enum Outline {
+    OutlineIs(u64, usize),
+    OutlineBroken,
+}
+
+// The root of an id's class and the price of the class, from a scratch part that is 0, and is left with the prices of all classes.
+fn price_class(ws: &mut [u32], h: Head, id: Id) -> Priced
+    requires { ⌜ HeadIs (length (now ws)) (hd (now ws)) h ⌝ }
+    requires { ⌜ id .0 < h .ids ⌝ }
+    ensures { λ r. ⌜ PricesClass h (id .0) (now (ws .entry)) r (now (ws .exit)) ⌝ }
+{
+    let egraph::FindAnswer::FindRoot(root) = egraph::find(ws, id) else {
+        return Priced::PricedBroken;
+    };
+    let c = root.0 as usize;
+    if h.ids <= c {
+        return Priced::PricedBroken;
+    }
+    let Change::ChangeDone = pricing::find_costs(ws, h) else {
+        return Priced::PricedBroken;
+    };
+    let e = pricing::get_entry(ws, h, c);
+    if e.mark == 0 {
+        return Priced::PricedBroken;
+    }
+    Priced::PricedIs(c, e.price)
+}
+
+// The size of the class of an id, from a scratch part that is 0.
 fn work_out(ws: &mut [u32], h: Head, id: Id) -> CostAnswer
     requires { ⌜ HeadIs (length (now ws)) (hd (now ws)) h ⌝ }
     requires { ⌜ id .0 < h .ids ⌝ }
     ensures { λ r. ⌜ WorksOut h (id .0) (now (ws .entry)) r (now (ws .exit)) ⌝ }
 {
-    let egraph::FindAnswer::FindRoot(root) = egraph::find(ws, id) else {
-        return CostAnswer::CostNot(Refusal::BrokenWords);
-    };
-    let c = root.0 as usize;
-    if h.ids <= c {
-        return CostAnswer::CostNot(Refusal::BrokenWords);
+    match price_class(ws, h, id) {
+        Priced::PricedBroken => CostAnswer::CostNot(Refusal::BrokenWords),
+        Priced::PricedIs(c, size) => CostAnswer::CostIs(size),
     }
-    let Change::ChangeDone = pricing::find_costs(ws, h) else {
-        return CostAnswer::CostNot(Refusal::BrokenWords);
-    };
-    let e = pricing::get_entry(ws, h, c);
-    if e.mark == 0 {
-        return CostAnswer::CostNot(Refusal::BrokenWords);
-    }
-    CostAnswer::CostIs(e.price)
 }
 
 // A known id in a clean graph.
@@ -71,3 +102,7 @@ pub fn find_best_cost(ws: &mut [u32], id: Id) -> CostAnswer
         }
     }
 }
+
+pub mod forms;
+
+pub use forms::find_best;

@@ -33,19 +33,19 @@ pub spot-here : (c : ℕ) (x : Term) (l : Listing) → spot c ((c, x) ∷ l) ≡
 unfolding spot
 spot-here c x l = when-yes (ℕ-discrete c c) (some (length l)) (spot c l) refl
 
-spot-past : (c q : ℕ) (x : Term) (l : Listing) → c ≢ q → spot c ((q, x) ∷ l) ≡ spot c l
+pub spot-past : (c q : ℕ) (x : Term) (l : Listing) → c ≢ q → spot c ((q, x) ∷ l) ≡ spot c l
 unfolding spot
 spot-past c q x l n = when-no (ℕ-discrete c q) (some (length l)) (spot c l) n
 
-entry-here : (p c : ℕ) (x : Term) (l : Listing) → p ≡ length l → entry p ((c, x) ∷ l) ≡ some x
+pub entry-here : (p c : ℕ) (x : Term) (l : Listing) → p ≡ length l → entry p ((c, x) ∷ l) ≡ some x
 unfolding entry
 entry-here p c x l e = when-yes (ℕ-discrete p (length l)) (some x) (entry p l) e
 
-entry-past : (p c : ℕ) (x : Term) (l : Listing) → p ≢ length l → entry p ((c, x) ∷ l) ≡ entry p l
+pub entry-past : (p c : ℕ) (x : Term) (l : Listing) → p ≢ length l → entry p ((c, x) ∷ l) ≡ entry p l
 unfolding entry
 entry-past p c x l n = when-no (ℕ-discrete p (length l)) (some x) (entry p l) n
 
-entry-lt : (p : ℕ) (l : Listing) (x : Term) → entry p l ≡ some x → p < length l
+pub entry-lt : (p : ℕ) (l : Listing) (x : Term) → entry p l ≡ some x → p < length l
 unfolding entry
 entry-lt p [] x e = absurd (none≢some e)
 entry-lt p (y ∷ l) x e = go (ℕ-discrete p (length l)) e (entry-lt p l x)
@@ -80,7 +80,7 @@ extends-self l = record { stands = λ p x h. h; spots = λ c p h. h }
 extends-trans : {k l m : Listing} → Extends k l → Extends l m → Extends k m
 extends-trans a b = record { stands = λ p x h. b .stands p x (a .stands p x h); spots = λ c p h. b .spots c p (a .spots c p h) }
 
-extends-more : (r : ℕ) (x : Term) (l : Listing) → spot r l ≡ none → Extends l ((r, x) ∷ l)
+pub extends-more : (r : ℕ) (x : Term) (l : Listing) → spot r l ≡ none → Extends l ((r, x) ∷ l)
 extends-more r x l e = record {
   stands = λ p y h. entry-past p r x l (λ i. out p y h i) ∙ h;
   spots = λ c p h. spot-past c r x l (λ i. none≢some (sym e ∙ (sym (ap (λ q. spot q l) i) ∙ h))) ∙ h;
@@ -187,13 +187,13 @@ module _ {P : Type 0} (R : Rule P) (nodes : ℕ → List Term) (t : Table P) (B 
     pub listed : Listed m r
     pub from : (q p : ℕ) → spot q m ≡ some p → Listed l q ⊎ Under q r
 
-  record All-visited (l m : Listing) (cs : List ℕ) : Type 0 where
-    fine : Fine m
-    extends : Extends l m
-    listed : (c : ℕ) → Mem c cs → Listed m c
-    from : (q p : ℕ) → spot q m ≡ some p → Listed l q ⊎ ((c : ℕ) × Mem c cs × Under q c)
+  pub record All-visited (l m : Listing) (cs : List ℕ) : Type 0 where
+    pub fine : Fine m
+    pub extends : Extends l m
+    pub listed : (c : ℕ) → Mem c cs → Listed m c
+    pub from : (q p : ℕ) → spot q m ≡ some p → Listed l q ⊎ ((c : ℕ) × Mem c cs × Under q c)
 
-  each-visited : (next : ℕ → Listing → Listing) (cs : List ℕ) (l : Listing) → ((c : ℕ) → Mem c cs → (k : Listing) → Fine k → Visited k (next c k) c) → Fine l → All-visited l (each next cs l) cs
+  pub each-visited : (next : ℕ → Listing → Listing) (cs : List ℕ) (l : Listing) → ((c : ℕ) → Mem c cs → (k : Listing) → Fine k → Visited k (next c k) c) → Fine l → All-visited l (each next cs l) cs
   unfolding each
   each-visited next [] l w F = record { fine = F; extends = extends-self l; listed = λ c m. absurd (mem-nil m); from = λ q p h. inl (p, h) }
   each-visited next (c ∷ cs) l w F = both (w c (here refl) l F) (each-visited next cs (next c l) (λ d m. w d (there m)) (w c (here refl) l F .fine))

@@ -51,10 +51,10 @@ pub record Finding (h : Head) (i : ℕ) (ws ws′ : List ℕ) : Type 0 where
 module _ (h : Head) (ws : List ℕ) where
   -- more nodes than ids: no graph's words
   pub costs-long : (r : Total) → Totals (view (h .n) (h .m) ws .members) (h .n) (h .ids) r → r ≡ TotalBroken → FindsCosts h ws ChangeBroken ws
-  costs-long r T e = record { only = lent-same ws tt; law = λ g C P. absurd (omega (arith, T .broken e, C .few)) }
+  costs-long r T e = record { only = lent-same ws (λ i l. refl); law = λ g C P. absurd (omega (arith, T .broken e, C .few)) }
 
   pub finding-start : Finding h 0 ws ws
-  finding-start = record { only = lent-same ws tt; law = λ g C P. first g P (end-in-time AstSize (class-nodes g) (class-roots g) (C .listed)) }
+  finding-start = record { only = lent-same ws (λ i l. refl); law = λ g C P. first g P (end-in-time AstSize (class-nodes g) (class-roots g) (C .listed)) }
     where
       first : (g : Graph) → Prices g (h .n) (view (h .n) (h .m) ws .scratch) []
           → (n : ℕ) × (n ≤ suc (length (class-roots g))) × Run AstSize (class-nodes g) (class-roots g) n [] (table AstSize g)

@@ -1,4 +1,5 @@
 pub mod Entries
+pub mod Laid
 pub mod Node
 pub mod Classed
 pub mod Best

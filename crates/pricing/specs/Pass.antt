@@ -81,7 +81,7 @@ took-count {k = k} T = let z : T .count ≡ k = cc (T .is) in omega (arith, T .g
 module _ (h : Head) (ws : List ℕ) where
   pub passing-start : Passing h 0 0 ws ws
   unfolding pass upto
-  passing-start = record { only = lent-same ws tt; law = λ g t C P. record { count = 0; is = refl; prices = P; grown = omega arith } }
+  passing-start = record { only = lent-same ws (λ i l. refl); law = λ g t C P. record { count = 0; is = refl; prices = P; grown = omega arith } }
 
   module _ (i k : ℕ) (ws1 ws2 : List ℕ) (A : Passing h i k ws ws1) (r : Taken) (B : Turns h i ws1 r ws2) where
     -- the turn of id i, after those below it

@@ -6,10 +6,12 @@ use mathlib.Core.List.{List, _∷_}
 use mathlib.Core.Logic.{_≢_}
 use mathlib.Core.Option.{Option, none, some}
 use mathlib.Core.Path.{_∙_, _≡_, ap, refl, subst, sym}
-use Prim.Native.Nat.{_+_, _<_, _≤_, min, ℕ}
+use Prim.Native.Nat.{_*_, _+_, _<_, _≤_, min, ℕ}
 use native.Mathlib.Decide.{decLe}
 use native.Mathlib.Omega.{arith}
 use lib.ListN.{length}
+use Rattle.lists.specs.Reads.{at}
+use Rattle.lists.specs.Stores.{puts-miss}
 use Rattle.lists.specs.Tests.{when-no, when-yes}
 use Rattle.steps.specs.Classes.{class-nodes}
 use Rattle.steps.specs.Graph.{Graph}
@@ -22,7 +24,7 @@ use Rattle.price.specs.Pass.{Best, Table, accept, best, look, turn}
 use Rattle.price.specs.Size.{AstSize, cap}
 use Rattle.pricing.specs.Best.{BestOf, Means, more, no-more}
 use Rattle.pricing.specs.Classed.{Classed}
-use Rattle.pricing.specs.Entries.{EntryAt, Keeps, Names, Prices, entry-as, prices-more}
+use Rattle.pricing.specs.Entries.{EntryAt, Keeps, Names, Prices, entry-as, prices-more, stores}
 use Rattle.pricing.specs.declared.Chosen.{Chosen}
 use Rattle.pricing.specs.declared.Chosen.the-variants.{ChosenBroken, ChosenIs}
 use Rattle.pricing.specs.declared.Entry.{Entry}
@@ -89,12 +91,16 @@ module _ (old new : Entry) where
 
 -- ---- the turn
 
--- nothing but the scratch part has changed
+-- the scratch words past the prices and marks are as they were
+abbrev pub Ahead : ℕ → List ℕ → List ℕ → Type 0
+Ahead n s s′ = (i : ℕ) → 3 * n ≤ i → at s′ i ≡ at s i
+
+-- nothing but prices and marks has changed
 abbrev pub Scratched : ℕ → ℕ → List ℕ → List ℕ → Type 0
-Scratched n m ws ws′ = Lent scratch n m (λ s s′. Unit {0}) ws ws′
+Scratched n m ws ws′ = Lent scratch n m (Ahead n) ws ws′
 
 pub scratched-then : {n m : ℕ} {ws ws1 ws2 : List ℕ} → Scratched n m ws ws1 → Scratched n m ws1 ws2 → Scratched n m ws ws2
-scratched-then a b = lent-twice (λ x y z p q. tt) a b
+scratched-then a b = lent-twice (λ x y z p q i l. q i l ∙ p i l) a b
 
 -- the scratch words ss hold the table u, which has as many entries more than t as were taken
 pub record Took (g : Graph) (n : ℕ) (ss : List ℕ) (t u : Table ℕ) (r : Taken) : Type 0 where
@@ -115,7 +121,7 @@ taken-broken k e = let z : _≡_ {A = ℕ} 0 1 = cc in absurd (omega arith)
 module _ (h : Head) (a : ℕ) (ws : List ℕ) (c : Chosen) (B : BestOf h a (view (h .n) (h .m) ws) c) where
   pub turn-broken : c ≡ ChosenBroken → Turns h a ws TakenBroken ws
   turn-broken e = record {
-    only = lent-same ws tt;
+    only = lent-same ws (λ i l. refl);
     few = λ k p. taken-broken k p;
     law = λ g t C P. let k = B .law g t C P in absurd (apart (k .0) (sym e ∙ k .1));
   }
@@ -135,7 +141,7 @@ module _ (h : Head) (a : ℕ) (ws : List ℕ) (c : Chosen) (B : BestOf h a (view
     pub turn-kept : b ≡ false → Turns h a ws (TakenIs 0) ws
     unfolding turn
     turn-kept e = record {
-      only = lent-same ws tt;
+      only = lent-same ws (λ i l. refl);
       few = λ k p. let z : 0 ≡ k = cc in omega arith;
       law = λ g t C P. same g t P (A .no-law e g (look a t) (best AstSize t (class-nodes g a)) (entry-as g (h .n) _ t a old P ha E) (proposed g t C P) a t);
     }
@@ -148,7 +154,7 @@ module _ (h : Head) (a : ℕ) (ws : List ℕ) (c : Chosen) (B : BestOf h a (view
     pub turn-taken : (ws′ : List ℕ) → need (h .n) (h .m) ≤ length ws → b ≡ true → Lent scratch (h .n) (h .m) (Keeps (h .n) a new) ws ws′ → Turns h a ws (TakenIs 1) ws′
     unfolding turn
     turn-taken ws′ ok e K = record {
-      only = lent-map (λ s s′ p. tt) K;
+      only = lent-map (λ s s′ p i l. rw p (puts-miss (stores (h .n) a new) s i (omega arith))) K;
       few = λ k p. let z : 1 ≡ k = cc in omega arith;
       law = λ g t C P. one g t P (A .yes-law e g (look a t) (best AstSize t (class-nodes g a)) (entry-as g (h .n) _ t a old P ha E) (proposed g t C P));
     }

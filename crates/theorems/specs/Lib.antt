@@ -1,3 +1,4 @@
 pub mod Outcomes
 pub mod Course
 pub mod Sizes
+pub mod Forms

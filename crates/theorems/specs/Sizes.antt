@@ -61,7 +61,7 @@ module _ (ws : List ℕ) (i : ℕ) where
 
 -- ---- two outcomes are one
 
-flag-or : (b : Bool) → (b ≡ false) ⊎ (b ≡ true)
+pub flag-or : (b : Bool) → (b ≡ false) ⊎ (b ≡ true)
 flag-or false = inl refl
 flag-or true = inr refl
 

@@ -1,0 +1,4 @@
+pub mod Kept
+pub mod Placed
+pub mod FormNode
+pub mod Form

@@ -1,0 +1,5 @@
+pub mod Way
+pub mod Kids
+pub mod State
+pub mod Step
+pub mod Walk
