@@ -1,4 +1,7 @@
 // One call made, and what it answered as a reply; the words of a list or a form stand at the start of `list`.
+ghost use mathlib.Core.Path.{_≡_};
+ghost use Rattle.replay.specs.Replies.{refusal-reply, setup-reply, find-reply, add-reply, lookup-reply, union-reply, count-reply, flag-reply, list-told, alone};
+use super::Told;
 use egraph::AddAnswer;
 use egraph::CountAnswer;
 use egraph::FindAnswer;
@@ -16,17 +19,15 @@ use script::Call;
 use script::Reply;
 use script::Verb;
 
-// A reply, and how many words of the list go with it.
-pub struct Told {
-    pub reply: Reply,
-    pub words: usize,
-}
-
-fn plain(reply: Reply) -> Told {
+fn plain(reply: Reply) -> Told
+    ensures { λ r. ⌜ r ≡ alone reply ⌝ }
+{
     Told { reply, words: 0 }
 }
 
-fn refused(why: Refusal) -> Reply {
+fn refused(why: Refusal) -> Reply
+    ensures { λ r. ⌜ r ≡ refusal-reply why ⌝ }
+{
     match why {
         Refusal::BadLimits => Reply::ReplyRefused(1),
         Refusal::TooFewWords => Reply::ReplyRefused(2),
@@ -40,28 +41,36 @@ fn refused(why: Refusal) -> Reply {
     }
 }
 
-fn on_setup(a: SetupAnswer) -> Reply {
+fn on_setup(a: SetupAnswer) -> Reply
+    ensures { λ r. ⌜ r ≡ setup-reply a ⌝ }
+{
     match a {
         SetupAnswer::SetupDone => Reply::ReplyDone,
         SetupAnswer::SetupNot(why) => refused(why),
     }
 }
 
-fn on_find(a: FindAnswer) -> Reply {
+fn on_find(a: FindAnswer) -> Reply
+    ensures { λ r. ⌜ r ≡ find-reply a ⌝ }
+{
     match a {
         FindAnswer::FindRoot(id) => Reply::ReplyNumber(id.0 as u64),
         FindAnswer::FindNot(why) => refused(why),
     }
 }
 
-fn on_add(a: AddAnswer) -> Reply {
+fn on_add(a: AddAnswer) -> Reply
+    ensures { λ r. ⌜ r ≡ add-reply a ⌝ }
+{
     match a {
         AddAnswer::AddId(id) => Reply::ReplyNumber(id.0 as u64),
         AddAnswer::AddNot(why) => refused(why),
     }
 }
 
-fn on_lookup(a: LookupAnswer) -> Reply {
+fn on_lookup(a: LookupAnswer) -> Reply
+    ensures { λ r. ⌜ r ≡ lookup-reply a ⌝ }
+{
     match a {
         LookupAnswer::LookupFound(id) => Reply::ReplyNumber(id.0 as u64),
         LookupAnswer::LookupNone => Reply::ReplyNone,
@@ -69,7 +78,9 @@ fn on_lookup(a: LookupAnswer) -> Reply {
     }
 }
 
-fn on_union(a: UnionAnswer) -> Reply {
+fn on_union(a: UnionAnswer) -> Reply
+    ensures { λ r. ⌜ r ≡ union-reply a ⌝ }
+{
     match a {
         UnionAnswer::UnionYes => Reply::ReplyYes,
         UnionAnswer::UnionNo => Reply::ReplyNo,
@@ -77,14 +88,18 @@ fn on_union(a: UnionAnswer) -> Reply {
     }
 }
 
-fn on_count(a: CountAnswer) -> Reply {
+fn on_count(a: CountAnswer) -> Reply
+    ensures { λ r. ⌜ r ≡ count-reply a ⌝ }
+{
     match a {
         CountAnswer::CountIs(k) => Reply::ReplyNumber(k as u64),
         CountAnswer::CountNot(why) => refused(why),
     }
 }
 
-fn on_flag(a: FlagAnswer) -> Reply {
+fn on_flag(a: FlagAnswer) -> Reply
+    ensures { λ r. ⌜ r ≡ flag-reply a ⌝ }
+{
     match a {
         FlagAnswer::FlagYes => Reply::ReplyYes,
         FlagAnswer::FlagNo => Reply::ReplyNo,
@@ -92,7 +107,9 @@ fn on_flag(a: FlagAnswer) -> Reply {
     }
 }
 
-fn on_list(a: ListAnswer) -> Told {
+fn on_list(a: ListAnswer) -> Told
+    ensures { λ r. ⌜ r ≡ list-told a ⌝ }
+{
     match a {
         ListAnswer::ListWords(k) => Told {
             reply: Reply::ReplyWords,

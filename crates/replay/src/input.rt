@@ -4,8 +4,8 @@ ghost use Rattle.io.specs.Counts.{Counts};
 use super::LINE;
 use super::LIST;
 use super::OUT;
+use super::Told;
 use super::WORDS;
-use super::calls::Told;
 use super::calls::make;
 use script::Call;
 

@@ -4,6 +4,8 @@
 mod calls;
 mod input;
 
+use script::Reply;
+
 // What limits n = 8,192 and m = 32,768 need.
 pub const WORDS: usize = 360480;
 
@@ -15,6 +17,12 @@ pub const LINE: usize = 4097;
 
 // Room for the longest answer behind others that are not written out yet.
 pub const OUT: usize = 1048576;
+
+// A reply, and how many words of the list go with it.
+pub struct Told {
+    pub reply: Reply,
+    pub words: usize,
+}
 
 fn main() {
     let mut ws = [0u32; WORDS];

@@ -1,0 +1,27 @@
+use mathlib.Core.Path.{ap, sym, _∙_}
+use Rattle.replay.specs.Replies.{add-reply}
+use borrow.Author.Needs.{needs}
+use Rattle.replay.proofs.calls.on_add.Statement.{statement}
+use Rattle.replay.proofs.calls.on_add.Tie as tie
+
+enum-known-a : tie.Need-enum-known-a
+enum-known-a c = search needs
+
+cast-t5 : tie.Need-cast-t5
+cast-t5 c = search needs
+
+enum-known-a-2 : tie.Need-enum-known-a-2
+enum-known-a-2 c = search needs
+
+refused-requires : tie.Need-refused-requires
+refused-requires c κs = search needs
+
+returns : tie.Need-returns
+returns c = ap add-reply (sym (c .before .before .a .given .1))
+
+returns-2 : tie.Need-returns-2
+returns-2 c = c .refused .ensures ∙ ap add-reply (sym (c .before .before .a2 .given .1))
+
+pub on-add-spec : {M : Type 1} → statement M
+on-add-spec =
+    tie.close (tie.spec enum-known-a cast-t5 enum-known-a-2 refused-requires returns returns-2)
