@@ -353,8 +353,6 @@ impl LanguageChildren for Id {
 /// `(+ (* x 5) x)` could be represented by a recursive expression of the form
 /// `[Num(5), Var("x"), Mul(1, 0), Add(2, 1)]`.
 ///
-/// If the `serde-1` feature is enabled, this implements
-/// [`serde::Serialize`](https://docs.rs/serde/latest/serde/trait.Serialize.html).
 #[derive(Debug, Clone, PartialEq, Eq, PartialOrd, Ord, Hash)]
 pub struct RecExpr<L> {
     nodes: Vec<L>,

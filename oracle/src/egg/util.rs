@@ -10,8 +10,6 @@ use crate::*;
 
 /// An interned string.
 ///
-/// This is provided by the [`symbol_table`](https://crates.io/crates/symbol_table) crate.
-///
 /// Internally, `egg` frequently compares [`Var`]s and elements of
 /// [`Language`]s. To keep comparisons fast, `egg` provides [`Symbol`] a simple
 /// wrapper providing interned strings.
