@@ -1,6 +1,5 @@
 -- What is replied to each answer of a call: the values as they are, a refusal by its number. With Reply of `script` this says which line answers each call.
 -- Assumes nothing.
-use Prim.Native.Nat.{ℕ}
 use Rattle.egraph.specs.Answers.{number-of}
 use Rattle.egraph.specs.declared.AddAnswer.{AddAnswer}
 use Rattle.egraph.specs.declared.AddAnswer.the-variants.{AddId, AddNot}

@@ -1,5 +1,7 @@
 // One call made, and what it answered as a reply; the words of a list or a form stand at the start of `list`.
 ghost use mathlib.Core.Path.{_≡_};
+ghost use Prim.Native.Nat.{_≤_};
+ghost use Rattle.replay.specs.Calls.{Sound, MadeBy, GivenNode, SetupMade, AddMade, UncanonicalMade, LookupMade, FindMade, UnionMade, RebuildMade, EmptyMade, CleanMade, CountMade, NodesMade};
 ghost use Rattle.replay.specs.Replies.{refusal-reply, setup-reply, find-reply, add-reply, lookup-reply, union-reply, count-reply, flag-reply, list-told, alone};
 use super::Told;
 use egraph::AddAnswer;
@@ -120,14 +122,11 @@ fn on_list(a: ListAnswer) -> Told
 }
 
 // The node of a call that takes one. Children past the eighth are counted and not kept: the call refuses them.
-fn node_of(call: Call) -> Node {
+fn node_of(call: Call) -> Node
+    requires { ⌜ (2 ≤ call .count) × (call .count ≤ 24) ⌝ }
+    ensures { λ r. ⌜ GivenNode (call .count) (call .numbers) r ⌝ }
+{
     let n = call.numbers;
-    if call.count < 2 {
-        return Node::leaf(Op(0), 0);
-    }
-    if script::NUMBERS < call.count {
-        return Node::leaf(Op(0), 0);
-    }
     Node {
         op: Op(n[0]),
         payload: n[1],
@@ -161,8 +160,9 @@ fn spell(list: &mut [u32], node: Node) -> Told {
     }
 }
 
-fn stored(ws: &[u32], list: &mut [u32], id: Id) -> Told {
-    let a = egraph::id_to_node(ws, id);
+fn call_id_to_node(ws: &[u32], list: &mut [u32], call: Call) -> Told {
+    let n = call.numbers;
+    let a = egraph::id_to_node(ws, Id(n[0]));
     let out = a.out;
     match out {
         NodeOut::NodeIs => spell(list, a.node),
@@ -170,47 +170,117 @@ fn stored(ws: &[u32], list: &mut [u32], id: Id) -> Told {
     }
 }
 
-// Calls that may change the graph.
-fn change(ws: &mut [u32], call: Call) -> Reply {
-    let verb = call.verb;
+fn call_setup(ws: &mut [u32], call: Call) -> Told
+    ensures { λ r. ⌜ SetupMade call (now (ws .entry)) r (now (ws .exit)) ⌝ }
+{
     let n = call.numbers;
-    match verb {
-        Verb::VerbSetup => on_setup(egraph::setup(ws, n[0] as usize, n[1] as usize)),
-        Verb::VerbAdd => on_add(egraph::add(ws, node_of(call))),
-        Verb::VerbAddUncanonical => on_add(egraph::add_uncanonical(ws, node_of(call))),
-        Verb::VerbUnion => on_union(egraph::union(ws, Id(n[0]), Id(n[1]))),
-        Verb::VerbRebuild => on_count(egraph::rebuild(ws)),
-        _ => Reply::ReplyBad,
-    }
+    let a = egraph::setup(ws, n[0] as usize, n[1] as usize);
+    plain(on_setup(a))
 }
 
-// Calls that answer one thing and change nothing.
-fn ask(ws: &[u32], call: Call) -> Reply {
-    let verb = call.verb;
+fn call_add(ws: &mut [u32], call: Call) -> Told
+    requires { ⌜ (2 ≤ call .count) × (call .count ≤ 24) ⌝ }
+    ensures { λ r. ⌜ AddMade (call .count) (call .numbers) (now (ws .entry)) r (now (ws .exit)) ⌝ }
+{
+    let node = node_of(call);
+    let a = egraph::add(ws, node);
+    plain(on_add(a))
+}
+
+fn call_uncanonical(ws: &mut [u32], call: Call) -> Told
+    requires { ⌜ (2 ≤ call .count) × (call .count ≤ 24) ⌝ }
+    ensures { λ r. ⌜ UncanonicalMade (call .count) (call .numbers) (now (ws .entry)) r (now (ws .exit)) ⌝ }
+{
+    let node = node_of(call);
+    let a = egraph::add_uncanonical(ws, node);
+    plain(on_add(a))
+}
+
+fn call_lookup(ws: &[u32], call: Call) -> Told
+    requires { ⌜ (2 ≤ call .count) × (call .count ≤ 24) ⌝ }
+    ensures { λ r. ⌜ LookupMade (call .count) (call .numbers) (now (ws .entry)) r ⌝ }
+{
+    let node = node_of(call);
+    let a = egraph::lookup(ws, node);
+    plain(on_lookup(a))
+}
+
+fn call_find(ws: &[u32], call: Call) -> Told
+    ensures { λ r. ⌜ FindMade call (now (ws .entry)) r ⌝ }
+{
     let n = call.numbers;
-    match verb {
-        Verb::VerbLookup => on_lookup(egraph::lookup(ws, node_of(call))),
-        Verb::VerbFind => on_find(egraph::find(ws, Id(n[0]))),
-        Verb::VerbIsEmpty => on_flag(egraph::is_empty(ws)),
-        Verb::VerbClean => on_flag(egraph::clean(ws)),
-        Verb::VerbNumberOfClasses => on_count(egraph::number_of_classes(ws)),
-        _ => Reply::ReplyBad,
-    }
+    let a = egraph::find(ws, Id(n[0]));
+    plain(on_find(a))
+}
+
+fn call_union(ws: &mut [u32], call: Call) -> Told
+    ensures { λ r. ⌜ UnionMade call (now (ws .entry)) r (now (ws .exit)) ⌝ }
+{
+    let n = call.numbers;
+    let a = egraph::union(ws, Id(n[0]), Id(n[1]));
+    plain(on_union(a))
+}
+
+fn call_rebuild(ws: &mut [u32]) -> Told
+    ensures { λ r. ⌜ RebuildMade (now (ws .entry)) r (now (ws .exit)) ⌝ }
+{
+    let a = egraph::rebuild(ws);
+    plain(on_count(a))
+}
+
+fn call_is_empty(ws: &[u32]) -> Told
+    ensures { λ r. ⌜ EmptyMade (now (ws .entry)) r ⌝ }
+{
+    let a = egraph::is_empty(ws);
+    plain(on_flag(a))
+}
+
+fn call_clean(ws: &[u32]) -> Told
+    ensures { λ r. ⌜ CleanMade (now (ws .entry)) r ⌝ }
+{
+    let a = egraph::clean(ws);
+    plain(on_flag(a))
+}
+
+fn call_number_of_classes(ws: &[u32]) -> Told
+    ensures { λ r. ⌜ CountMade (now (ws .entry)) r ⌝ }
+{
+    let a = egraph::number_of_classes(ws);
+    plain(on_count(a))
+}
+
+fn call_nodes(ws: &[u32], list: &mut [u32]) -> Told
+    ensures { λ r. ⌜ NodesMade (now (ws .entry)) (now (list .entry)) r (now (list .exit)) ⌝ }
+{
+    let a = egraph::nodes(ws, list);
+    on_list(a)
 }
 
 // One call. (Not there yet: classes, classes_for_op, total_number_of_nodes, find_best_cost, find_best.)
-pub fn make(ws: &mut [u32], list: &mut [u32], call: Call) -> Told {
+pub fn make(ws: &mut [u32], list: &mut [u32], call: Call) -> Told
+    requires { ⌜ Sound call ⌝ }
+    ensures { λ r. ⌜ MadeBy (call .verb) call (now (ws .entry)) (now (list .entry)) r (now (ws .exit)) (now (list .exit)) ⌝ }
+{
     let verb = call.verb;
     match verb {
         Verb::VerbSkip => plain(Reply::ReplySkip),
         Verb::VerbBad => plain(Reply::ReplyBad),
-        Verb::VerbSetup => plain(change(ws, call)),
-        Verb::VerbAdd => plain(change(ws, call)),
-        Verb::VerbAddUncanonical => plain(change(ws, call)),
-        Verb::VerbUnion => plain(change(ws, call)),
-        Verb::VerbRebuild => plain(change(ws, call)),
-        Verb::VerbNodes => on_list(egraph::nodes(ws, list)),
-        Verb::VerbIdToNode => stored(ws, list, Id(call.numbers[0])),
-        _ => plain(ask(ws, call)),
+        Verb::VerbSetup => call_setup(ws, call),
+        Verb::VerbAdd => call_add(ws, call),
+        Verb::VerbAddUncanonical => call_uncanonical(ws, call),
+        Verb::VerbLookup => call_lookup(ws, call),
+        Verb::VerbFind => call_find(ws, call),
+        Verb::VerbUnion => call_union(ws, call),
+        Verb::VerbRebuild => call_rebuild(ws),
+        Verb::VerbNodes => call_nodes(ws, list),
+        Verb::VerbIdToNode => call_id_to_node(ws, list, call),
+        Verb::VerbIsEmpty => call_is_empty(ws),
+        Verb::VerbClean => call_clean(ws),
+        Verb::VerbNumberOfClasses => call_number_of_classes(ws),
+        Verb::VerbClasses => plain(Reply::ReplyBad),
+        Verb::VerbClassesForOp => plain(Reply::ReplyBad),
+        Verb::VerbTotalNumberOfNodes => plain(Reply::ReplyBad),
+        Verb::VerbFindBestCost => plain(Reply::ReplyBad),
+        Verb::VerbFindBest => plain(Reply::ReplyBad),
     }
 }

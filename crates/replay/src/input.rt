@@ -1,6 +1,7 @@
 // Standard input read in pieces, its lines answered, the answers written out.
 ghost use Prim.Native.Nat.{_≤_};
 ghost use Rattle.io.specs.Counts.{Counts};
+ghost use Rattle.replay.specs.Calls.{Sound};
 use super::LINE;
 use super::LIST;
 use super::OUT;
@@ -61,7 +62,9 @@ fn room(out: &[u8], at: usize) -> usize
     0
 }
 
-fn answer(ws: &mut [u32], list: &mut [u32], out: &mut [u8], at: usize, call: Call) -> usize {
+fn answer(ws: &mut [u32], list: &mut [u32], out: &mut [u8], at: usize, call: Call) -> usize
+    requires { ⌜ Sound call ⌝ }
+{
     let told = make(ws, list, call);
     say(out, at, told, list)
 }
@@ -90,7 +93,9 @@ fn gather(line: &mut [u8], used: usize, b: u8) -> usize {
     script::keep(line, n, b)
 }
 
-fn heard(line: &[u8], used: usize) -> Call {
+fn heard(line: &[u8], used: usize) -> Call
+    ensures { λ r. ⌜ Sound r ⌝ }
+{
     let n = within(line, used);
     script::parse(&line[..n])
 }

@@ -9,3 +9,4 @@ pub mod Reply
 pub mod Puts
 pub mod Examples
 pub mod Gathered
+pub mod Counts

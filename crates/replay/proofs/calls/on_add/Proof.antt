@@ -4,18 +4,6 @@ use borrow.Author.Needs.{needs}
 use Rattle.replay.proofs.calls.on_add.Statement.{statement}
 use Rattle.replay.proofs.calls.on_add.Tie as tie
 
-enum-known-a : tie.Need-enum-known-a
-enum-known-a c = search needs
-
-cast-t5 : tie.Need-cast-t5
-cast-t5 c = search needs
-
-enum-known-a-2 : tie.Need-enum-known-a-2
-enum-known-a-2 c = search needs
-
-refused-requires : tie.Need-refused-requires
-refused-requires c κs = search needs
-
 returns : tie.Need-returns
 returns c = ap add-reply (sym (c .before .before .a .given .1))
 
@@ -24,4 +12,10 @@ returns-2 c = c .refused .ensures ∙ ap add-reply (sym (c .before .before .a2 .
 
 pub on-add-spec : {M : Type 1} → statement M
 on-add-spec =
-    tie.close (tie.spec enum-known-a cast-t5 enum-known-a-2 refused-requires returns returns-2)
+    tie.close (tie.spec
+    (λ c. search needs)
+    (λ c. search needs)
+    (λ c. search needs)
+    (λ c κs. search needs)
+    returns
+    returns-2)

@@ -4,28 +4,17 @@ use borrow.Author.Needs.{needs}
 use Rattle.replay.proofs.calls.on_flag.Statement.{statement}
 use Rattle.replay.proofs.calls.on_flag.Tie as tie
 
-enum-told : tie.Need-enum-told
-enum-told c = search needs
-
-enum-told-2 : tie.Need-enum-told-2
-enum-told-2 c = search needs
-
-enum-known-a : tie.Need-enum-known-a
-enum-known-a c = search needs
-
-refused-requires : tie.Need-refused-requires
-refused-requires c κs = search needs
-
-returns : tie.Need-returns
-returns c = search needs
-
-returns-2 : tie.Need-returns-2
-returns-2 c = search needs
-
 returns-3 : tie.Need-returns-3
 returns-3 c = c .refused .ensures ∙ ap flag-reply (sym (c .before .before .a .given .1))
 
 pub on-flag-spec : {M : Type 1} → statement M
 on-flag-spec =
     tie.close
-    (tie.spec enum-told enum-told-2 enum-known-a refused-requires returns returns-2 returns-3)
+    (tie.spec
+    (λ c. search needs)
+    (λ c. search needs)
+    (λ c. search needs)
+    (λ c κs. search needs)
+    (λ c. search needs)
+    (λ c. search needs)
+    returns-3)

@@ -4,18 +4,6 @@ use borrow.Author.Needs.{needs}
 use Rattle.replay.proofs.calls.on_list.Statement.{statement}
 use Rattle.replay.proofs.calls.on_list.Tie as tie
 
-enum-known-a : tie.Need-enum-known-a
-enum-known-a c = search needs
-
-enum-known-a-2 : tie.Need-enum-known-a-2
-enum-known-a-2 c = search needs
-
-refused-requires : tie.Need-refused-requires
-refused-requires c κs = search needs
-
-plain-requires : tie.Need-plain-requires
-plain-requires c κs = search needs
-
 returns : tie.Need-returns
 returns c = ap list-told (sym (c .before .a .given .1))
 
@@ -25,4 +13,10 @@ returns-2 c = c .plain .ensures ∙ ap alone (c .before .refused .ensures) ∙ a
 pub on-list-spec : {M : Type 1} → statement M
 on-list-spec =
     tie.close
-    (tie.spec enum-known-a enum-known-a-2 refused-requires plain-requires returns returns-2)
+    (tie.spec
+    (λ c. search needs)
+    (λ c. search needs)
+    (λ c κs. search needs)
+    (λ c κs. search needs)
+    returns
+    returns-2)

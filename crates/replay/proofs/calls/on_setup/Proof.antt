@@ -4,20 +4,13 @@ use borrow.Author.Needs.{needs}
 use Rattle.replay.proofs.calls.on_setup.Statement.{statement}
 use Rattle.replay.proofs.calls.on_setup.Tie as tie
 
-enum-told : tie.Need-enum-told
-enum-told c = search needs
-
-enum-known-a : tie.Need-enum-known-a
-enum-known-a c = search needs
-
-refused-requires : tie.Need-refused-requires
-refused-requires c κs = search needs
-
-returns : tie.Need-returns
-returns c = search needs
-
 returns-2 : tie.Need-returns-2
 returns-2 c = c .refused .ensures ∙ ap setup-reply (sym (c .before .before .a .given .1))
 
 pub on-setup-spec : {M : Type 1} → statement M
-on-setup-spec = tie.close (tie.spec enum-told enum-known-a refused-requires returns returns-2)
+on-setup-spec = tie.close (tie.spec
+    (λ c. search needs)
+    (λ c. search needs)
+    (λ c κs. search needs)
+    (λ c. search needs)
+    returns-2)

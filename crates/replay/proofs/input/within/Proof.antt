@@ -3,16 +3,14 @@ use lib.Seq.{length-take-le}
 use native.Mathlib.Nat.{le-refl}
 use Rattle.replay.proofs.input.within.Statement.{statement}
 use Rattle.replay.proofs.input.within.Tie as tie
-use Rattle.replay.proofs.input.within.Reads as reads
-use Rattle.replay.proofs.input.within.Lts as lts
 
--- src/main.rt:72:9
 returns : tie.Need-returns
 returns c = (c .if1 .taken, sym (length-take-le _ _ (c .if1 .taken)))
 
--- src/main.rt:68:1
 returns-2 : tie.Need-returns-2
 returns-2 c = (le-refl _, sym (length-take-le _ (c .before .args .s .now) (le-refl _)))
 
 pub within-spec : {M : Type 1} → statement M
-within-spec = tie.close (tie.spec returns returns-2)
+within-spec = tie.close (tie.spec
+    returns
+    returns-2)
