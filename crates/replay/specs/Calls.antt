@@ -1,15 +1,20 @@
 -- What it means that a line's call was made: for each verb, the call of that name was made on the line's numbers, there is an answer that its promise allows, and what is told
 -- is that answer. Words and list are those before and after.
 -- Assumes nothing.
+use Rattle.spelling.specs.Puts.{Puts}
+use Rattle.lists.specs.Sets.{sets-stand}
+use Rattle.egraph.specs.declared.NodeOut.the-variants.{NodeIs, NodeNot}
+use Rattle.egraph.specs.declared.NodeOut.{NodeOut}
+use Rattle.egraph.specs.declared.NodeAnswer.{NodeAnswer}
 use mathlib.Core.List.{List, [], _∷_, _++_}
 use mathlib.Core.Bool.{true}
-use mathlib.Core.Path.{_≡_, ap, refl, sym, _∙_}
-use Prim.Native.Nat.{ℕ, _-_, _≤_}
+use mathlib.Core.Path.{_≡_, ap, refl, sym, _∙_, subst}
+use Prim.Native.Nat.{ℕ, _-_, _≤_, _<_}
 use native.Mathlib.Omega.{arith}
 use lib.ListN.{drop, length, take}
 use lib.Seq.{drop-cons, take-append-le}
 use Rattle.egraph.specs.Adds.{AddSays, LookupSays, UncanonicalSays}
-use Rattle.egraph.specs.Listing.{NodesSays}
+use Rattle.egraph.specs.Listing.{NodesSays, NodeSays}
 use Rattle.egraph.specs.Reads.{CleanSays, CountSays, EmptySays, FindSays}
 use Rattle.egraph.specs.Rebuilds.{RebuildSays}
 use Rattle.egraph.specs.Setup.{SetupSays}
@@ -23,17 +28,17 @@ use Rattle.egraph.specs.declared.LookupAnswer.{LookupAnswer}
 use Rattle.egraph.specs.declared.SetupAnswer.{SetupAnswer}
 use Rattle.egraph.specs.declared.UnionAnswer.{UnionAnswer}
 use Rattle.language.specs.Struct.{nodeOf}
-use Rattle.language.specs.Term.{Term, places}
+use Rattle.language.specs.Term.{Term, places, words}
 use Rattle.language.specs.declared.Node.{Node}
 use Rattle.lists.specs.Reads.{at}
 use Rattle.script.specs.declared.Call.{Call}
 use Rattle.script.specs.Counts.{node-call, on-node}
 use Rattle.script.specs.Line.{Says}
 use Rattle.script.specs.declared.Reply.{Reply}
-use Rattle.script.specs.declared.Reply.the-variants.{ReplyBad, ReplySkip}
+use Rattle.script.specs.declared.Reply.the-variants.{ReplyBad, ReplySkip, ReplyWords}
 use Rattle.script.specs.declared.Verb.{Verb}
 use Rattle.script.specs.declared.Verb.the-variants.{VerbAdd, VerbAddUncanonical, VerbBad, VerbClasses, VerbClassesForOp, VerbClean, VerbFind, VerbFindBest, VerbFindBestCost, VerbIdToNode, VerbIsEmpty, VerbLookup, VerbNodes, VerbNumberOfClasses, VerbRebuild, VerbSetup, VerbSkip, VerbTotalNumberOfNodes, VerbUnion}
-use Rattle.replay.specs.Replies.{add-reply, alone, count-reply, find-reply, flag-reply, list-told, lookup-reply, setup-reply, union-reply}
+use Rattle.replay.specs.Replies.{add-reply, alone, count-reply, find-reply, flag-reply, list-told, lookup-reply, setup-reply, union-reply, refusal-reply}
 use Rattle.replay.specs.declared.Told.{Told}
 
 -- number i of a call
@@ -90,6 +95,38 @@ CountMade ws r = Answered (λ (a : CountAnswer). CountSays ws a) (λ (a : CountA
 abbrev pub NodesMade : List ℕ → List ℕ → Told → List ℕ → Type 0
 NodesMade ws list r list′ = Answered (λ (a : ListAnswer). NodesSays ws list a list′) list-told r
 
+-- a node's words stand at the start of the list, if the node is one and there is room for it
+pub record Spelt (list : List ℕ) (x : Node) (r : Told) (list′ : List ℕ) : Type 0 where
+  pub stands : x .count ≤ places → length (words (nodeOf x)) ≤ length list
+      → (r ≡ record { reply = ReplyWords; words = length (words (nodeOf x)) }) × (take (length (words (nodeOf x))) list′ ≡ words (nodeOf x))
+
+abbrev pub NodeTold : NodeOut → Node → List ℕ → Told → List ℕ → Type 0
+NodeTold NodeIs x list r list′ = Spelt list x r list′
+NodeTold (NodeNot q) x list r list′ = r ≡ alone (refusal-reply q)
+
+pub record NodeMade (ws : List ℕ) (i : ℕ) (list : List ℕ) (r : Told) (list′ : List ℕ) : Type 0 where
+  pub answer : NodeAnswer
+  pub says : NodeSays ws i answer
+  pub told : NodeTold (answer .out) (answer .node) list r list′
+
+pub spelt : (list list′ : List ℕ) (x : Node) (n : ℕ) → Puts list 0 x n list′ → Spelt list x (record { reply = ReplyWords; words = n }) list′
+spelt list list′ x n d = record { stands = λ s f. (ap (λ (k : ℕ). listed k) (omega (arith, d .next)), front f) }
+  where
+    listed : ℕ → Told
+    listed k = record { reply = ReplyWords; words = k }
+
+    front : length (words (nodeOf x)) ≤ length list → take (length (words (nodeOf x))) list′ ≡ words (nodeOf x)
+    front f = rw (d .exact) (sets-stand list (words (nodeOf x)) 0 (omega arith))
+
+pub too-many : (list list′ : List ℕ) (x : Node) (r : Told) → places < x .count → Spelt list x r list′
+too-many list list′ x r h = record { stands = λ s f. absurd (omega arith) }
+
+pub too-long : (list list′ : List ℕ) (x : Node) (r : Told) → length list < length (words (nodeOf x)) → Spelt list x r list′
+too-long list list′ x r h = record { stands = λ s f. absurd (omega arith) }
+
+pub node-made : {ws : List ℕ} {i : ℕ} {list : List ℕ} {r : Told} {list′ : List ℕ} (a : NodeAnswer) {o : NodeOut} → NodeSays ws i a → a .out ≡ o → NodeTold o (a .node) list r list′ → NodeMade ws i list r list′
+node-made {list = list} {r} {list′} a p e t = record { answer = a; says = p; told = subst (λ (z : NodeOut). NodeTold z (a .node) list r list′) (sym e) t }
+
 -- as the code puts it together
 pub answered : {A : Type 0} {Promise : A → Type 0} (f : A → Reply) (a : A) {q : Reply} {r : Told} → Promise a → q ≡ f a → r ≡ alone q → Answered Promise (λ (a : A). alone (f a)) r
 answered f a p e d = record { answer = a; says = p; is = d ∙ ap alone e }
@@ -145,7 +182,7 @@ MadeBy VerbRebuild c ws l r ws′ l′ = RebuildMade ws r ws′
 MadeBy VerbClasses c ws l r ws′ l′ = r ≡ alone ReplyBad
 MadeBy VerbClassesForOp c ws l r ws′ l′ = r ≡ alone ReplyBad
 MadeBy VerbNodes c ws l r ws′ l′ = NodesMade ws l r l′ × (ws′ ≡ ws)
-MadeBy VerbIdToNode c ws l r ws′ l′ = ws′ ≡ ws
+MadeBy VerbIdToNode c ws l r ws′ l′ = NodeMade ws (number c 0) l r l′ × (ws′ ≡ ws)
 MadeBy VerbIsEmpty c ws l r ws′ l′ = EmptyMade ws r × (ws′ ≡ ws)
 MadeBy VerbClean c ws l r ws′ l′ = CleanMade ws r × (ws′ ≡ ws)
 MadeBy VerbNumberOfClasses c ws l r ws′ l′ = CountMade ws r × (ws′ ≡ ws)

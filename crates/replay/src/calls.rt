@@ -1,7 +1,7 @@
 // One call made, and what it answered as a reply; the words of a list or a form stand at the start of `list`.
 ghost use mathlib.Core.Path.{_≡_};
 ghost use Prim.Native.Nat.{_≤_};
-ghost use Rattle.replay.specs.Calls.{Sound, MadeBy, GivenNode, SetupMade, AddMade, UncanonicalMade, LookupMade, FindMade, UnionMade, RebuildMade, EmptyMade, CleanMade, CountMade, NodesMade};
+ghost use Rattle.replay.specs.Calls.{number, Spelt, NodeMade, Sound, MadeBy, GivenNode, SetupMade, AddMade, UncanonicalMade, LookupMade, FindMade, UnionMade, RebuildMade, EmptyMade, CleanMade, CountMade, NodesMade};
 ghost use Rattle.replay.specs.Replies.{refusal-reply, setup-reply, find-reply, add-reply, lookup-reply, union-reply, count-reply, flag-reply, list-told, alone};
 use super::Told;
 use egraph::AddAnswer;
@@ -145,7 +145,9 @@ fn node_of(call: Call) -> Node
 }
 
 // The words of a node at the start of a list.
-fn spell(list: &mut [u32], node: Node) -> Told {
+fn spell(list: &mut [u32], node: Node) -> Told
+    ensures { λ r. ⌜ Spelt (now (list .entry)) node r (now (list .exit)) ⌝ }
+{
     let count = node.count as usize;
     if language::PLACES < count {
         return plain(Reply::ReplyRefused(9));
@@ -154,13 +156,16 @@ fn spell(list: &mut [u32], node: Node) -> Told {
     if list.len() < n {
         return plain(Reply::ReplyRefused(8));
     }
+    let words = spelling::put_node(list, 0, node);
     Told {
         reply: Reply::ReplyWords,
-        words: spelling::put_node(list, 0, node),
+        words,
     }
 }
 
-fn call_id_to_node(ws: &[u32], list: &mut [u32], call: Call) -> Told {
+fn call_id_to_node(ws: &[u32], list: &mut [u32], call: Call) -> Told
+    ensures { λ r. ⌜ NodeMade (now (ws .entry)) (number call 0) (now (list .entry)) r (now (list .exit)) ⌝ }
+{
     let n = call.numbers;
     let a = egraph::id_to_node(ws, Id(n[0]));
     let out = a.out;

@@ -44,7 +44,7 @@ returns-10 : tie.Need-returns-10
 returns-10 c = rw (c .before .before .before .before .before .enum-told10 .given .1) (c .before .before .call-nodes .ensures, refl)
 
 returns-11 : tie.Need-returns-11
-returns-11 c = rw (c .before .before .before .before .before .enum-told11 .given .1) refl
+returns-11 c = rw (c .before .before .before .before .before .enum-told11 .given .1) (c .before .before .call-id-to-node .ensures, refl)
 
 returns-12 : tie.Need-returns-12
 returns-12 c = rw (c .before .before .enum-told12 .given .1) (c .call-is-empty .ensures, refl)
