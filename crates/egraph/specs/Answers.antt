@@ -3,6 +3,7 @@
 -- Assumes nothing.
 use mathlib.Core.Bool.{Bool, false, true}
 use mathlib.Core.List.{List, [], _∷_, cons≢nil}
+use mathlib.Core.Logic.{_⊎_}
 use mathlib.Core.Path.{_∙_, _≡_, ap, subst, sym}
 use Prim.Native.Nat.{_<_, _≤_, ℕ}
 use lib.ListN.{drop, length, take}
@@ -31,7 +32,7 @@ use Rattle.egraph.specs.declared.SetupAnswer.the-variants.{SetupDone, Se
 use Rattle.egraph.specs.declared.UnionAnswer.{UnionAnswer}
 use Rattle.egraph.specs.declared.UnionAnswer.the-variants.{UnionNo, UnionNot, UnionYes}
 use Rattle.holds.specs.Holds.{Holds, HoldsAt}
-use Rattle.holds.specs.HoldsLaws.{holds-written}
+use Rattle.holds.specs.HoldsLaws.{false≢true, holds-written}
 use Rattle.holds.specs.Inside.{Near}
 use Rattle.layout.specs.Cut.{need}
 use Rattle.layout.specs.Head.{GoodHead, HeadIs, HeadOk, HeadSays, head-bad, head-good, head-is, numbers}
@@ -133,6 +134,13 @@ pub record Lists (xs out : List ℕ) (r : ListAnswer) (out′ : List ℕ) : Type
   pub fits : length xs ≤ length out
       → (list-says r ≡ yes-with (length xs ∷ [])) × (take (length xs) out′ ≡ xs) × (drop (length xs) out′ ≡ drop (length xs) out)
 
+-- what is left for a list of a graph, once nothing before 9 refuses it: 9 or 8, with the slice as it was, or words of the slice; and on words that hold a graph its list
+pub record ListOpen (list : Graph → List ℕ) (ws out : List ℕ) (r : ListAnswer) (out′ : List ℕ) : Type 0 where
+  pub inside : (k : ℕ) → r ≡ ListWords k → k ≤ length out
+  pub size : length out′ ≡ length out
+  pub refused : (k : ℕ) → list-says r ≡ no-by k → ((k ≡ 9) ⊎ (k ≡ 8)) × (out′ ≡ out)
+  pub sound : (g : Graph) → Holds ws g → Lists (list g) out r out′
+
 -- ---- the ladder of refusals, in document 01's order: refused where Bad, and else what comes after
 
 pub record Else (Bad No Good Next : Type 0) : Type 0 where
@@ -163,6 +171,24 @@ module _ {N X : Type 0} (ws : List ℕ) (r : HeadRead) (s : HeadSays (length ws)
 -- the numbers that stand in the head of ws
 abbrev pub head-of : List ℕ → Head
 head-of ws = numbers (hd ws)
+
+-- 7: the graph is not clean, as its head says
+abbrev pub Unless-7 : List ℕ → Type 0 → Type 0 → Type 0
+Unless-7 ws No Next = Else (head-of ws .clean ≡ false) No (head-of ws .clean ≡ true) Next
+
+-- what the head says is what the graph says
+pub held-clean : {ws : List ℕ} {g : Graph} → Holds ws g → head-of ws .clean ≡ g .clean
+held-clean H = H .at-rest .clean-is
+
+module _ (ws : List ℕ) (h : Head) (q : HeadIs (length ws) (hd ws) h) where
+  clean-of : head-of ws .clean ≡ h .clean
+  clean-of = sym (ap (λ (s : Head). s .clean) (q .is))
+
+  pub unclean : {N X : Type 0} → h .clean ≡ false → N → Unless-7 ws N X
+  unclean e n = stop (clean-of ∙ e) (λ a b. false≢true (sym a ∙ b)) n
+
+  pub cleaned : {N X : Type 0} → h .clean ≡ true → X → Unless-7 ws N X
+  cleaned e x = pass (clean-of ∙ e) (λ a b. false≢true (sym a ∙ b)) x
 
 pub ids-is : {len : ℕ} {l : List ℕ} {h : Head} → HeadIs len l h → h .ids ≡ numbers l .ids
 ids-is p = ap (λ (s : Head). s .ids) (p .is)

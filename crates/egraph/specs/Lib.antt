@@ -4,5 +4,6 @@ pub mod Reads
 pub mod Unions
 pub mod Stored
 pub mod Listing
+pub mod ClassLists
 pub mod Adds
 pub mod Rebuilds

@@ -2,7 +2,7 @@
 -- hold a graph, or for a list 8. A list that is refused leaves the slice lent for it as it was.
 -- Assumes nothing.
 use mathlib.Core.List.{List, [], _∷_}
-use mathlib.Core.Logic.{_⊎_, inl, inr}
+use mathlib.Core.Logic.{inl, inr}
 use mathlib.Core.Path.{_∙_, _≡_, ap, refl, sym}
 use Prim.Native.Nat.{_+_, _<_, _≤_, ℕ}
 use native.Mathlib.Omega.{arith}
@@ -11,7 +11,7 @@ use Rattle.language.specs.Struct.{nodeOf}
 use Rattle.language.specs.Term.{Term, places, spell, words}
 use Rattle.steps.specs.Classes.{nodes}
 use Rattle.steps.specs.Graph.{Graph, node}
-use Rattle.egraph.specs.Answers.{Answer, Else, Lists, Unless-3, head-of, list-says, never, nine, no-by, node-says, number-of, yes-with}
+use Rattle.egraph.specs.Answers.{Answer, Else, ListOpen, Unless-3, head-of, list-says, never, nine, no-by, node-says, number-of, yes-with}
 use Rattle.egraph.specs.Stored.{long-more, stored, stored-is}
 use Rattle.egraph.specs.declared.ListAnswer.{ListAnswer}
 use Rattle.egraph.specs.declared.ListAnswer.the-variants.{ListNot, ListWords}
@@ -90,11 +90,8 @@ module _ (ws : List ℕ) (h : Head) (q : HeadIs (length ws) (hd ws) h) (i : ℕ)
 
 -- ---- all of them
 
-pub record NodesOpen (ws out : List ℕ) (r : ListAnswer) (out′ : List ℕ) : Type 0 where
-  pub inside : (k : ℕ) → r ≡ ListWords k → k ≤ length out
-  pub size : length out′ ≡ length out
-  pub refused : (k : ℕ) → list-says r ≡ no-by k → ((k ≡ 9) ⊎ (k ≡ 8)) × (out′ ≡ out)
-  pub sound : (g : Graph) → Holds ws g → Lists (nodes g) out r out′
+abbrev pub NodesOpen : List ℕ → List ℕ → ListAnswer → List ℕ → Type 0
+NodesOpen = ListOpen nodes
 
 -- whatever the words, an answer counts words of out
 pub record NodesSays (ws out : List ℕ) (r : ListAnswer) (out′ : List ℕ) : Type 0 where

@@ -101,6 +101,12 @@ pub mod listing;
 pub use listing::id_to_node;
 pub use listing::nodes;
 
+pub mod class_lists;
+
+pub use class_lists::classes;
+pub use class_lists::classes_for_op;
+pub use class_lists::total_number_of_nodes;
+
 pub mod adds;
 
 pub use adds::add;

@@ -66,7 +66,7 @@ fn mix(h: u64, w: u32) -> u64
     requires { ⌜ h < 2 ^ 32 ⌝ }
     ensures { λ r. ⌜ (r ≡ mixed h w) × (r < 2 ^ 32) ⌝ }
 {
-    (h * FACTOR + w as u64) % WORDS
+    (h + w as u64) % WORDS * FACTOR % WORDS
 }
 
 impl Ordering {

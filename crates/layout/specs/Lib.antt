@@ -1,5 +1,6 @@
 pub mod Cut
 pub mod View
+pub mod Whole
 pub mod Back
 pub mod Lent
 pub mod Idle

@@ -3,6 +3,9 @@
 -- Assumes nothing.
 use Rattle.spelling.specs.Puts.{Puts}
 use Rattle.lists.specs.Sets.{sets-stand}
+use Rattle.extract.specs.Cost.{CostSays}
+use Rattle.extract.specs.declared.CostAnswer.{CostAnswer}
+use Rattle.egraph.specs.ClassLists.{ClassesSays, ForOpSays, TotalSays}
 use Rattle.egraph.specs.declared.NodeOut.the-variants.{NodeIs, NodeNot}
 use Rattle.egraph.specs.declared.NodeOut.{NodeOut}
 use Rattle.egraph.specs.declared.NodeAnswer.{NodeAnswer}
@@ -38,7 +41,7 @@ use Rattle.script.specs.declared.Reply.{Reply}
 use Rattle.script.specs.declared.Reply.the-variants.{ReplyBad, ReplySkip, ReplyWords}
 use Rattle.script.specs.declared.Verb.{Verb}
 use Rattle.script.specs.declared.Verb.the-variants.{VerbAdd, VerbAddUncanonical, VerbBad, VerbClasses, VerbClassesForOp, VerbClean, VerbFind, VerbFindBest, VerbFindBestCost, VerbIdToNode, VerbIsEmpty, VerbLookup, VerbNodes, VerbNumberOfClasses, VerbRebuild, VerbSetup, VerbSkip, VerbTotalNumberOfNodes, VerbUnion}
-use Rattle.replay.specs.Replies.{add-reply, alone, count-reply, find-reply, flag-reply, list-told, lookup-reply, setup-reply, union-reply, refusal-reply}
+use Rattle.replay.specs.Replies.{add-reply, alone, count-reply, find-reply, flag-reply, list-told, lookup-reply, setup-reply, union-reply, refusal-reply, cost-reply}
 use Rattle.replay.specs.declared.Told.{Told}
 
 -- number i of a call
@@ -91,6 +94,18 @@ CleanMade ws r = Answered (λ (a : FlagAnswer). CleanSays ws a) (λ (a : FlagAns
 
 abbrev pub CountMade : List ℕ → Told → Type 0
 CountMade ws r = Answered (λ (a : CountAnswer). CountSays ws a) (λ (a : CountAnswer). alone (count-reply a)) r
+
+abbrev pub TotalMade : List ℕ → Told → Type 0
+TotalMade ws r = Answered (λ (a : CountAnswer). TotalSays ws a) (λ (a : CountAnswer). alone (count-reply a)) r
+
+abbrev pub CostMade : Call → List ℕ → Told → List ℕ → Type 0
+CostMade c ws r ws′ = Answered (λ (a : CostAnswer). CostSays ws (number c 0) a ws′) (λ (a : CostAnswer). alone (cost-reply a)) r
+
+abbrev pub ClassesMade : List ℕ → List ℕ → Told → List ℕ → Type 0
+ClassesMade ws list r list′ = Answered (λ (a : ListAnswer). ClassesSays ws list a list′) list-told r
+
+abbrev pub ForOpMade : Call → List ℕ → List ℕ → Told → List ℕ → Type 0
+ForOpMade c ws list r list′ = Answered (λ (a : ListAnswer). ForOpSays ws (number c 0) list a list′) list-told r
 
 abbrev pub NodesMade : List ℕ → List ℕ → Told → List ℕ → Type 0
 NodesMade ws list r list′ = Answered (λ (a : ListAnswer). NodesSays ws list a list′) list-told r
@@ -179,15 +194,15 @@ MadeBy VerbLookup c ws l r ws′ l′ = LookupMade (c .count) (c .numbers) ws r 
 MadeBy VerbFind c ws l r ws′ l′ = FindMade c ws r × (ws′ ≡ ws)
 MadeBy VerbUnion c ws l r ws′ l′ = UnionMade c ws r ws′
 MadeBy VerbRebuild c ws l r ws′ l′ = RebuildMade ws r ws′
-MadeBy VerbClasses c ws l r ws′ l′ = r ≡ alone ReplyBad
-MadeBy VerbClassesForOp c ws l r ws′ l′ = r ≡ alone ReplyBad
+MadeBy VerbClasses c ws l r ws′ l′ = ClassesMade ws l r l′ × (ws′ ≡ ws)
+MadeBy VerbClassesForOp c ws l r ws′ l′ = ForOpMade c ws l r l′ × (ws′ ≡ ws)
 MadeBy VerbNodes c ws l r ws′ l′ = NodesMade ws l r l′ × (ws′ ≡ ws)
 MadeBy VerbIdToNode c ws l r ws′ l′ = NodeMade ws (number c 0) l r l′ × (ws′ ≡ ws)
 MadeBy VerbIsEmpty c ws l r ws′ l′ = EmptyMade ws r × (ws′ ≡ ws)
 MadeBy VerbClean c ws l r ws′ l′ = CleanMade ws r × (ws′ ≡ ws)
 MadeBy VerbNumberOfClasses c ws l r ws′ l′ = CountMade ws r × (ws′ ≡ ws)
-MadeBy VerbTotalNumberOfNodes c ws l r ws′ l′ = r ≡ alone ReplyBad
-MadeBy VerbFindBestCost c ws l r ws′ l′ = r ≡ alone ReplyBad
+MadeBy VerbTotalNumberOfNodes c ws l r ws′ l′ = TotalMade ws r × (ws′ ≡ ws)
+MadeBy VerbFindBestCost c ws l r ws′ l′ = CostMade c ws r ws′
 MadeBy VerbFindBest c ws l r ws′ l′ = r ≡ alone ReplyBad
 MadeBy VerbSkip c ws l r ws′ l′ = (r ≡ alone ReplySkip) × (ws′ ≡ ws)
 MadeBy VerbBad c ws l r ws′ l′ = (r ≡ alone ReplyBad) × (ws′ ≡ ws)

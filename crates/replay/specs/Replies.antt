@@ -18,6 +18,8 @@ use Rattle.egraph.specs.declared.SetupAnswer.{SetupAnswer}
 use Rattle.egraph.specs.declared.SetupAnswer.the-variants.{SetupDone, SetupNot}
 use Rattle.egraph.specs.declared.UnionAnswer.{UnionAnswer}
 use Rattle.egraph.specs.declared.UnionAnswer.the-variants.{UnionNo, UnionNot, UnionYes}
+use Rattle.extract.specs.declared.CostAnswer.{CostAnswer}
+use Rattle.extract.specs.declared.CostAnswer.the-variants.{CostIs, CostNot}
 use Rattle.script.specs.declared.Reply.{Reply}
 use Rattle.script.specs.declared.Reply.the-variants.{ReplyDone, ReplyNo, ReplyNone, ReplyNumber, ReplyRefused, ReplyWords, ReplyYes}
 use Rattle.replay.specs.declared.Told.{Told}
@@ -55,6 +57,10 @@ abbrev pub flag-reply : FlagAnswer → Reply
 flag-reply FlagYes = ReplyYes
 flag-reply FlagNo = ReplyNo
 flag-reply (FlagNot q) = refusal-reply q
+
+abbrev pub cost-reply : CostAnswer → Reply
+cost-reply (CostIs p) = ReplyNumber p
+cost-reply (CostNot q) = refusal-reply q
 
 -- a reply without words, and one with the first k of the list
 abbrev pub alone : Reply → Told

@@ -1,8 +1,8 @@
 // One call made, and what it answered as a reply; the words of a list or a form stand at the start of `list`.
 ghost use mathlib.Core.Path.{_≡_};
 ghost use Prim.Native.Nat.{_≤_};
-ghost use Rattle.replay.specs.Calls.{number, Spelt, NodeMade, Sound, MadeBy, GivenNode, SetupMade, AddMade, UncanonicalMade, LookupMade, FindMade, UnionMade, RebuildMade, EmptyMade, CleanMade, CountMade, NodesMade};
-ghost use Rattle.replay.specs.Replies.{refusal-reply, setup-reply, find-reply, add-reply, lookup-reply, union-reply, count-reply, flag-reply, list-told, alone};
+ghost use Rattle.replay.specs.Calls.{number, Spelt, NodeMade, Sound, MadeBy, GivenNode, SetupMade, AddMade, UncanonicalMade, LookupMade, FindMade, UnionMade, RebuildMade, EmptyMade, CleanMade, CountMade, NodesMade, ClassesMade, ForOpMade, TotalMade, CostMade};
+ghost use Rattle.replay.specs.Replies.{refusal-reply, setup-reply, find-reply, add-reply, lookup-reply, union-reply, cost-reply, count-reply, flag-reply, list-told, alone};
 use super::Told;
 use egraph::AddAnswer;
 use egraph::CountAnswer;
@@ -14,6 +14,7 @@ use egraph::NodeOut;
 use egraph::Refusal;
 use egraph::SetupAnswer;
 use egraph::UnionAnswer;
+use extract::CostAnswer;
 use language::Id;
 use language::Node;
 use language::Op;
@@ -96,6 +97,15 @@ fn on_count(a: CountAnswer) -> Reply
     match a {
         CountAnswer::CountIs(k) => Reply::ReplyNumber(k as u64),
         CountAnswer::CountNot(why) => refused(why),
+    }
+}
+
+fn on_cost(a: CostAnswer) -> Reply
+    ensures { λ r. ⌜ r ≡ cost-reply a ⌝ }
+{
+    match a {
+        CostAnswer::CostIs(size) => Reply::ReplyNumber(size),
+        CostAnswer::CostNot(why) => refused(why),
     }
 }
 
@@ -261,7 +271,37 @@ fn call_nodes(ws: &[u32], list: &mut [u32]) -> Told
     on_list(a)
 }
 
-// One call. (Not there yet: classes, classes_for_op, total_number_of_nodes, find_best_cost, find_best.)
+fn call_classes(ws: &[u32], list: &mut [u32]) -> Told
+    ensures { λ r. ⌜ ClassesMade (now (ws .entry)) (now (list .entry)) r (now (list .exit)) ⌝ }
+{
+    let a = egraph::classes(ws, list);
+    on_list(a)
+}
+
+fn call_classes_for_op(ws: &[u32], list: &mut [u32], call: Call) -> Told
+    ensures { λ r. ⌜ ForOpMade call (now (ws .entry)) (now (list .entry)) r (now (list .exit)) ⌝ }
+{
+    let n = call.numbers;
+    let a = egraph::classes_for_op(ws, Op(n[0]), list);
+    on_list(a)
+}
+
+fn call_total(ws: &[u32]) -> Told
+    ensures { λ r. ⌜ TotalMade (now (ws .entry)) r ⌝ }
+{
+    let a = egraph::total_number_of_nodes(ws);
+    plain(on_count(a))
+}
+
+fn call_cost(ws: &mut [u32], call: Call) -> Told
+    ensures { λ r. ⌜ CostMade call (now (ws .entry)) r (now (ws .exit)) ⌝ }
+{
+    let n = call.numbers;
+    let a = extract::find_best_cost(ws, Id(n[0]));
+    plain(on_cost(a))
+}
+
+// One call. (Not there yet: find_best.)
 pub fn make(ws: &mut [u32], list: &mut [u32], call: Call) -> Told
     requires { ⌜ Sound call ⌝ }
     ensures { λ r. ⌜ MadeBy (call .verb) call (now (ws .entry)) (now (list .entry)) r (now (ws .exit)) (now (list .exit)) ⌝ }
@@ -282,10 +322,10 @@ pub fn make(ws: &mut [u32], list: &mut [u32], call: Call) -> Told
         Verb::VerbIsEmpty => call_is_empty(ws),
         Verb::VerbClean => call_clean(ws),
         Verb::VerbNumberOfClasses => call_number_of_classes(ws),
-        Verb::VerbClasses => plain(Reply::ReplyBad),
-        Verb::VerbClassesForOp => plain(Reply::ReplyBad),
-        Verb::VerbTotalNumberOfNodes => plain(Reply::ReplyBad),
-        Verb::VerbFindBestCost => plain(Reply::ReplyBad),
+        Verb::VerbClasses => call_classes(ws, list),
+        Verb::VerbClassesForOp => call_classes_for_op(ws, list, call),
+        Verb::VerbTotalNumberOfNodes => call_total(ws),
+        Verb::VerbFindBestCost => call_cost(ws, call),
         Verb::VerbFindBest => plain(Reply::ReplyBad),
     }
 }

@@ -56,19 +56,19 @@ returns-14 : tie.Need-returns-14
 returns-14 c = rw (c .before .before .enum-told14 .given .1) (c .call-number-of-classes .ensures, refl)
 
 returns-15 : tie.Need-returns-15
-returns-15 c = rw (c .before .enum-told15 .given .1) (c .plain3 .ensures)
+returns-15 c = rw (c .before .before .before .before .before .enum-told15 .given .1) (c .before .before .call-classes .ensures, refl)
 
 returns-16 : tie.Need-returns-16
-returns-16 c = rw (c .before .enum-told16 .given .1) (c .plain4 .ensures)
+returns-16 c = rw (c .before .before .before .before .before .enum-told16 .given .1) (c .before .before .call-classes-for-op .ensures, refl)
 
 returns-17 : tie.Need-returns-17
-returns-17 c = rw (c .before .enum-told17 .given .1) (c .plain5 .ensures)
+returns-17 c = rw (c .before .before .enum-told17 .given .1) (c .call-total .ensures, refl)
 
 returns-18 : tie.Need-returns-18
-returns-18 c = rw (c .before .enum-told18 .given .1) (c .plain6 .ensures)
+returns-18 c = rw (c .before .before .before .before .enum-told18 .given .1) (c .before .before .call-cost .ensures)
 
 returns-19 : tie.Need-returns-19
-returns-19 c = rw (c .before .enum-told19 .given .1) (c .plain7 .ensures)
+returns-19 c = rw (c .before .enum-told19 .given .1) (c .plain3 .ensures)
 
 pub make-spec : {M : Type 1} → statement M
 make-spec =
@@ -140,8 +140,14 @@ make-spec =
     returns-13
     (λ c. search needs)
     returns-14
+    (λ c. search needs)
+    (λ c. search needs)
     returns-15
+    (λ c. search needs)
+    (λ c. search needs)
     returns-16
+    (λ c. search needs)
     returns-17
+    (λ c. search needs)
     returns-18
     returns-19)

@@ -1,0 +1,7 @@
+pub mod ClassWalk
+pub mod ClassCount
+pub mod ClassHeld
+pub mod Checks
+pub mod Pieces
+pub mod Ops
+pub mod Lists

@@ -1,0 +1,157 @@
+-- What the calls on the classes of a clean graph promise: `total_number_of_nodes`, `classes_for_op` and `classes`. On any words 3 and 7 come exactly when document 01
+-- says; what is left is an answer, or 9, which never comes on words that hold a graph, or for a list 8. A list that is refused leaves the slice lent for it as it was.
+-- Assumes nothing.
+use mathlib.Core.Bool.{Bool, false, true}
+use mathlib.Core.List.{List, [], _∷_}
+use mathlib.Core.Logic.{inl, inr}
+use mathlib.Core.Path.{_∙_, _≡_, ap, refl, sym}
+use Prim.Native.Nat.{_<_, _≤_, ℕ}
+use native.Mathlib.Omega.{arith}
+use lib.ListN.{length}
+use Rattle.lists.specs.Tests.{Says}
+use Rattle.steps.specs.Classes.{classes, classes-for-op, total-number-of-nodes}
+use Rattle.steps.specs.Graph.{Graph}
+use Rattle.eclass.specs.Checks.{Totals, UnbrokenIn, unbroken}
+use Rattle.eclass.specs.ClassHeld.{total-few, total-is}
+use Rattle.eclass.specs.Lists.{classes-are, classes-in}
+use Rattle.eclass.specs.Ops.{ops-are, ops-in}
+use Rattle.eclass.specs.Pieces.{Wrote, wrote-back, wrote-front}
+use Rattle.eclass.specs.declared.Total.{Total}
+use Rattle.eclass.specs.declared.Total.the-variants.{TotalBroken, TotalIs}
+use Rattle.egraph.specs.Answers.{Answer, Else, ListOpen, Lists, Unless-3, Unless-7, cleaned, count-says, held-clean, list-says, never, nine, no-by, opened, shut, unclean, yes-with}
+use Rattle.egraph.specs.Listing.{words≢not}
+use Rattle.egraph.specs.declared.CountAnswer.{CountAnswer}
+use Rattle.egraph.specs.declared.CountAnswer.the-variants.{CountIs, CountNot}
+use Rattle.egraph.specs.declared.ListAnswer.{ListAnswer}
+use Rattle.egraph.specs.declared.ListAnswer.the-variants.{ListNot, ListWords}
+use Rattle.egraph.specs.declared.Refusal.the-variants.{BadHead, BrokenWords, NotRebuilt, TooLong}
+use Rattle.holds.specs.Holds.{Holds}
+use Rattle.holds.specs.HoldsLaws.{holds-in}
+use Rattle.layout.specs.Head.{HeadIs, HeadSays}
+use Rattle.layout.specs.View.{hd, view}
+use Rattle.layout.specs.declared.Head.{Head}
+use Rattle.layout.specs.declared.HeadRead.{HeadRead}
+use Rattle.layout.specs.declared.HeadRead.the-variants.{HeadBad, HeadGood}
+
+-- ---- how many nodes
+
+pub record TotalOpen (ws : List ℕ) (r : CountAnswer) : Type 0 where
+  pub fair : (k : ℕ) → count-says r ≡ no-by k → k ≡ 9
+  pub sound : (g : Graph) → Holds ws g → count-says r ≡ yes-with (total-number-of-nodes g ∷ [])
+
+abbrev pub TotalSays : List ℕ → CountAnswer → Type 0
+TotalSays ws r =
+    Unless-3 ws (count-says r ≡ no-by 3)
+    (Unless-7 ws (count-says r ≡ no-by 7)
+    (TotalOpen ws r))
+
+-- in terms of a graph that the words hold
+pub total-held : (ws : List ℕ) (g : Graph) → Holds ws g → (r : CountAnswer) → TotalSays ws r
+    → Else (g .clean ≡ false) (count-says r ≡ no-by 7) (g .clean ≡ true) (count-says r ≡ yes-with (total-number-of-nodes g ∷ []))
+total-held ws g H r s = let t = s .on (H .good) in record { no = λ e. t .no (held-clean H ∙ e); on = λ e. t .on (held-clean H ∙ e) .sound g H }
+
+module _ (ws : List ℕ) (h : Head) (q : HeadIs (length ws) (hd ws) h) (c : h .clean ≡ true) where
+  -- a graph that these words hold is clean
+  its-clean : (g : Graph) → Holds ws g → g .clean ≡ true
+  its-clean g H = sym (holds-in ws h g q H .clean-is) ∙ c
+
+  module _ (r : Total) (T : Totals (view (h .n) (h .m) ws .members) (h .n) (h .ids) r) where
+    pub total-broken : r ≡ TotalBroken → TotalOpen ws (CountNot BrokenWords)
+    total-broken e = record {
+      fair = λ k p. nine k p;
+      sound = λ g H. absurd (omega (arith, T .broken e, total-few (holds-in ws h g q H) (its-clean g H)));
+    }
+
+    pub total-counted : (t : ℕ) → r ≡ TotalIs t → TotalOpen ws (CountIs t)
+    total-counted t e = record {
+      fair = λ k p. absurd (never k t p);
+      sound = λ g H. ap (λ (x : ℕ). yes-with (x ∷ [])) (T .exact t e ∙ total-is (holds-in ws h g q H) (its-clean g H));
+    }
+
+-- ---- lists
+
+-- whatever the words, an answer counts words of out
+pub record ListSays (list : Graph → List ℕ) (ws out : List ℕ) (r : ListAnswer) (out′ : List ℕ) : Type 0 where
+  pub inside : (k : ℕ) → r ≡ ListWords k → k ≤ length out
+  pub says :
+      Unless-3 ws ((list-says r ≡ no-by 3) × (out′ ≡ out))
+      (Unless-7 ws ((list-says r ≡ no-by 7) × (out′ ≡ out))
+      (ListOpen list ws out r out′))
+
+-- in terms of a graph that the words hold
+pub list-held : (list : Graph → List ℕ) (ws : List ℕ) (g : Graph) → Holds ws g → (out : List ℕ) (r : ListAnswer) (out′ : List ℕ) → ListSays list ws out r out′
+    → Else (g .clean ≡ false) ((list-says r ≡ no-by 7) × (out′ ≡ out)) (g .clean ≡ true) (Lists (list g) out r out′)
+list-held list ws g H out r out′ s = let t = s .says .on (H .good) in record { no = λ e. t .no (held-clean H ∙ e); on = λ e. t .on (held-clean H ∙ e) .sound g H }
+
+-- `classes_for_op`
+abbrev pub ForOpOpen : List ℕ → ℕ → List ℕ → ListAnswer → List ℕ → Type 0
+ForOpOpen ws o out r out′ = ListOpen (λ (g : Graph). classes-for-op g o) ws out r out′
+
+abbrev pub ForOpSays : List ℕ → ℕ → List ℕ → ListAnswer → List ℕ → Type 0
+ForOpSays ws o out r out′ = ListSays (λ (g : Graph). classes-for-op g o) ws out r out′
+
+-- `classes`
+abbrev pub ClassesOpen : List ℕ → List ℕ → ListAnswer → List ℕ → Type 0
+ClassesOpen = ListOpen classes
+
+abbrev pub ClassesSays : List ℕ → List ℕ → ListAnswer → List ℕ → Type 0
+ClassesSays = ListSays classes
+
+-- as the head is read
+module _ (list : Graph → List ℕ) (ws out : List ℕ) (r : HeadRead) (s : HeadSays (length ws) (hd ws) r) where
+  pub list-shut : r ≡ HeadBad → ListSays list ws out (ListNot BadHead) out
+  list-shut e = record { inside = λ k p. absurd (words≢not k BadHead (sym p)); says = shut ws r s e (refl, refl) }
+
+  module _ (h : Head) (e : r ≡ HeadGood h) where
+    pub list-unclean : h .clean ≡ false → ListSays list ws out (ListNot NotRebuilt) out
+    list-unclean f = record { inside = λ k p. absurd (words≢not k NotRebuilt (sym p)); says = opened ws r s h e (λ q. unclean ws h q f (refl, refl)) }
+
+    pub list-opened : h .clean ≡ true → (a : ListAnswer) (out′ : List ℕ) → ListOpen list ws out a out′ → ListSays list ws out a out′
+    list-opened f a out′ o = record { inside = o .inside; says = opened ws r s h e (λ q. cleaned ws h q f o) }
+
+module _ (list : Graph → List ℕ) (ws : List ℕ) (h : Head) (q : HeadIs (length ws) (hd ws) h) (c : h .clean ≡ true) (out : List ℕ) where
+  pub list-broken : (b : Bool) → Says b (UnbrokenIn h ws) → b ≡ false → ListOpen list ws out (ListNot BrokenWords) out
+  list-broken b s e = record {
+    inside = λ k p. absurd (words≢not k BrokenWords (sym p));
+    size = refl;
+    refused = λ k p. (inl (nine k p), refl);
+    sound = λ g H. absurd (s .fails e (unbroken (holds-in ws h g q H) (its-clean ws h q c g H)));
+  }
+
+  -- xs is what the words read as, which for a graph that they hold is its list, and k how long it is
+  module _ (xs : List ℕ) (is : (g : Graph) → Holds ws g → xs ≡ list g) (k : ℕ) (e : k ≡ length xs) where
+    its-length : (g : Graph) → Holds ws g → k ≡ length (list g)
+    its-length g H = e ∙ ap length (is g H)
+
+    pub list-long : length out < k → ListOpen list ws out (ListNot TooLong) out
+    list-long l = record {
+      inside = λ j p. absurd (words≢not j TooLong (sym p));
+      size = refl;
+      refused = λ j p. (inr (sym (ap (λ (a : Answer). a .number) p)), refl);
+      sound = λ g H. let n = its-length g H in record { long = λ _. (refl, refl); fits = λ b. absurd (omega arith) };
+    }
+
+    pub list-written : k ≤ length out → (p : ℕ) (out′ : List ℕ) → Wrote out 0 xs p out′ → ListOpen list ws out (ListWords p) out′
+    list-written l p out′ w = record {
+      inside = λ j s. let t : j ≡ p = cc in omega (arith, w .next);
+      size = w .size;
+      refused = λ j s. absurd (never j p s);
+      sound = λ g H.
+          let n = its-length g H in
+          let m : p ≡ length (list g) = omega (arith, w .next) in
+          let v : Wrote out 0 (list g) p out′ = rw (is g H) at w in
+          record {
+            long = λ b. absurd (omega arith);
+            fits = λ b. (ap (λ (y : ℕ). yes-with (y ∷ [])) m, wrote-front v b, wrote-back v b);
+          };
+    }
+
+-- what the words say of the classes with an operator
+pub its-ops : (ws : List ℕ) (h : Head) → HeadIs (length ws) (hd ws) h → h .clean ≡ true → (o : ℕ) (g : Graph) → Holds ws g
+    → ops-in h ws o ≡ classes-for-op g o
+its-ops ws h q c o g H = ops-are (holds-in ws h g q H) (its-clean ws h q c g H) o
+
+-- and of all classes
+pub its-classes : (ws : List ℕ) (h : Head) → HeadIs (length ws) (hd ws) h → h .clean ≡ true → (g : Graph) → Holds ws g
+    → classes-in h ws ≡ classes g
+its-classes ws h q c g H = classes-are (holds-in ws h g q H) (its-clean ws h q c g H)
