@@ -4,7 +4,9 @@
 use Rattle.spelling.specs.Puts.{Puts}
 use Rattle.lists.specs.Sets.{sets-stand}
 use Rattle.extract.specs.Cost.{CostSays}
+use Rattle.extract.specs.Form.{FormSays}
 use Rattle.extract.specs.declared.CostAnswer.{CostAnswer}
+use Rattle.extract.specs.declared.FormAnswer.{FormAnswer}
 use Rattle.egraph.specs.ClassLists.{ClassesSays, ForOpSays, TotalSays}
 use Rattle.egraph.specs.declared.NodeOut.the-variants.{NodeIs, NodeNot}
 use Rattle.egraph.specs.declared.NodeOut.{NodeOut}
@@ -41,7 +43,7 @@ use Rattle.script.specs.declared.Reply.{Reply}
 use Rattle.script.specs.declared.Reply.the-variants.{ReplyBad, ReplySkip, ReplyWords}
 use Rattle.script.specs.declared.Verb.{Verb}
 use Rattle.script.specs.declared.Verb.the-variants.{VerbAdd, VerbAddUncanonical, VerbBad, VerbClasses, VerbClassesForOp, VerbClean, VerbFind, VerbFindBest, VerbFindBestCost, VerbIdToNode, VerbIsEmpty, VerbLookup, VerbNodes, VerbNumberOfClasses, VerbRebuild, VerbSetup, VerbSkip, VerbTotalNumberOfNodes, VerbUnion}
-use Rattle.replay.specs.Replies.{add-reply, alone, count-reply, find-reply, flag-reply, list-told, lookup-reply, setup-reply, union-reply, refusal-reply, cost-reply}
+use Rattle.replay.specs.Replies.{add-reply, alone, count-reply, find-reply, flag-reply, form-told, list-told, lookup-reply, setup-reply, union-reply, refusal-reply, cost-reply}
 use Rattle.replay.specs.declared.Told.{Told}
 
 -- number i of a call
@@ -100,6 +102,9 @@ TotalMade ws r = Answered (λ (a : CountAnswer). TotalSays ws a) (λ (a : CountA
 
 abbrev pub CostMade : Call → List ℕ → Told → List ℕ → Type 0
 CostMade c ws r ws′ = Answered (λ (a : CostAnswer). CostSays ws (number c 0) a ws′) (λ (a : CostAnswer). alone (cost-reply a)) r
+
+abbrev pub FormMade : Call → List ℕ → List ℕ → Told → List ℕ → List ℕ → Type 0
+FormMade c ws list r ws′ list′ = Answered (λ (a : FormAnswer). FormSays ws (number c 0) list a ws′ list′) form-told r
 
 abbrev pub ClassesMade : List ℕ → List ℕ → Told → List ℕ → Type 0
 ClassesMade ws list r list′ = Answered (λ (a : ListAnswer). ClassesSays ws list a list′) list-told r
@@ -203,7 +208,7 @@ MadeBy VerbClean c ws l r ws′ l′ = CleanMade ws r × (ws′ ≡ ws)
 MadeBy VerbNumberOfClasses c ws l r ws′ l′ = CountMade ws r × (ws′ ≡ ws)
 MadeBy VerbTotalNumberOfNodes c ws l r ws′ l′ = TotalMade ws r × (ws′ ≡ ws)
 MadeBy VerbFindBestCost c ws l r ws′ l′ = CostMade c ws r ws′
-MadeBy VerbFindBest c ws l r ws′ l′ = r ≡ alone ReplyBad
+MadeBy VerbFindBest c ws l r ws′ l′ = FormMade c ws l r ws′ l′
 MadeBy VerbSkip c ws l r ws′ l′ = (r ≡ alone ReplySkip) × (ws′ ≡ ws)
 MadeBy VerbBad c ws l r ws′ l′ = (r ≡ alone ReplyBad) × (ws′ ≡ ws)
 

@@ -20,8 +20,10 @@ use Rattle.egraph.specs.declared.UnionAnswer.{UnionAnswer}
 use Rattle.egraph.specs.declared.UnionAnswer.the-variants.{UnionNo, UnionNot, UnionYes}
 use Rattle.extract.specs.declared.CostAnswer.{CostAnswer}
 use Rattle.extract.specs.declared.CostAnswer.the-variants.{CostIs, CostNot}
+use Rattle.extract.specs.declared.FormAnswer.{FormAnswer}
+use Rattle.extract.specs.declared.FormAnswer.the-variants.{FormIs, FormNot}
 use Rattle.script.specs.declared.Reply.{Reply}
-use Rattle.script.specs.declared.Reply.the-variants.{ReplyDone, ReplyNo, ReplyNone, ReplyNumber, ReplyRefused, ReplyWords, ReplyYes}
+use Rattle.script.specs.declared.Reply.the-variants.{ReplyDone, ReplyNo, ReplyNone, ReplyNumber, ReplyRefused, ReplySized, ReplyWords, ReplyYes}
 use Rattle.replay.specs.declared.Told.{Told}
 
 abbrev pub refusal-reply : Refusal → Reply
@@ -69,3 +71,7 @@ alone r = record { reply = r; words = 0 }
 abbrev pub list-told : ListAnswer → Told
 list-told (ListWords k) = record { reply = ReplyWords; words = k }
 list-told (ListNot q) = alone (refusal-reply q)
+
+abbrev pub form-told : FormAnswer → Told
+form-told (FormIs s k) = record { reply = ReplySized s; words = k }
+form-told (FormNot q) = alone (refusal-reply q)

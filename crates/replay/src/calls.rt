@@ -1,8 +1,8 @@
 // One call made, and what it answered as a reply; the words of a list or a form stand at the start of `list`.
 ghost use mathlib.Core.Path.{_≡_};
 ghost use Prim.Native.Nat.{_≤_};
-ghost use Rattle.replay.specs.Calls.{number, Spelt, NodeMade, Sound, MadeBy, GivenNode, SetupMade, AddMade, UncanonicalMade, LookupMade, FindMade, UnionMade, RebuildMade, EmptyMade, CleanMade, CountMade, NodesMade, ClassesMade, ForOpMade, TotalMade, CostMade};
-ghost use Rattle.replay.specs.Replies.{refusal-reply, setup-reply, find-reply, add-reply, lookup-reply, union-reply, cost-reply, count-reply, flag-reply, list-told, alone};
+ghost use Rattle.replay.specs.Calls.{number, Spelt, NodeMade, Sound, MadeBy, GivenNode, SetupMade, AddMade, UncanonicalMade, LookupMade, FindMade, UnionMade, RebuildMade, EmptyMade, CleanMade, CountMade, NodesMade, ClassesMade, ForOpMade, TotalMade, CostMade, FormMade};
+ghost use Rattle.replay.specs.Replies.{refusal-reply, setup-reply, find-reply, add-reply, lookup-reply, union-reply, cost-reply, count-reply, flag-reply, list-told, form-told, alone};
 use super::Told;
 use egraph::AddAnswer;
 use egraph::CountAnswer;
@@ -15,6 +15,7 @@ use egraph::Refusal;
 use egraph::SetupAnswer;
 use egraph::UnionAnswer;
 use extract::CostAnswer;
+use extract::FormAnswer;
 use language::Id;
 use language::Node;
 use language::Op;
@@ -128,6 +129,18 @@ fn on_list(a: ListAnswer) -> Told
             words: k,
         },
         ListAnswer::ListNot(why) => plain(refused(why)),
+    }
+}
+
+fn on_form(a: FormAnswer) -> Told
+    ensures { λ r. ⌜ r ≡ form-told a ⌝ }
+{
+    match a {
+        FormAnswer::FormIs(size, k) => Told {
+            reply: Reply::ReplySized(size),
+            words: k,
+        },
+        FormAnswer::FormNot(why) => plain(refused(why)),
     }
 }
 
@@ -301,7 +314,15 @@ fn call_cost(ws: &mut [u32], call: Call) -> Told
     plain(on_cost(a))
 }
 
-// One call. (Not there yet: find_best.)
+fn call_form(ws: &mut [u32], list: &mut [u32], call: Call) -> Told
+    ensures { λ r. ⌜ FormMade call (now (ws .entry)) (now (list .entry)) r (now (ws .exit)) (now (list .exit)) ⌝ }
+{
+    let n = call.numbers;
+    let a = extract::find_best(ws, Id(n[0]), list);
+    on_form(a)
+}
+
+// One call.
 pub fn make(ws: &mut [u32], list: &mut [u32], call: Call) -> Told
     requires { ⌜ Sound call ⌝ }
     ensures { λ r. ⌜ MadeBy (call .verb) call (now (ws .entry)) (now (list .entry)) r (now (ws .exit)) (now (list .exit)) ⌝ }
@@ -326,6 +347,6 @@ pub fn make(ws: &mut [u32], list: &mut [u32], call: Call) -> Told
         Verb::VerbClassesForOp => call_classes_for_op(ws, list, call),
         Verb::VerbTotalNumberOfNodes => call_total(ws),
         Verb::VerbFindBestCost => call_cost(ws, call),
-        Verb::VerbFindBest => plain(Reply::ReplyBad),
+        Verb::VerbFindBest => call_form(ws, list, call),
     }
 }

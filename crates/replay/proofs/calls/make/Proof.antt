@@ -68,7 +68,7 @@ returns-18 : tie.Need-returns-18
 returns-18 c = rw (c .before .before .before .before .enum-told18 .given .1) (c .before .before .call-cost .ensures)
 
 returns-19 : tie.Need-returns-19
-returns-19 c = rw (c .before .enum-told19 .given .1) (c .plain3 .ensures)
+returns-19 c = rw (c .before .before .before .before .before .before .before .enum-told19 .given .1) (c .before .before .before .before .call-form .ensures)
 
 pub make-spec : {M : Type 1} → statement M
 make-spec =
@@ -150,4 +150,6 @@ make-spec =
     returns-17
     (λ c. search needs)
     returns-18
+    (λ c. search needs)
+    (λ c. search needs)
     returns-19)
