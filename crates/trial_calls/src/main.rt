@@ -1,0 +1,68 @@
+// Hands every open call thousands of words that no calls could have produced, and writes for each call
+//
+//     NAME N calls, answered 0: A 3: B ..; 0 words outside changed, C refused calls set scratch words to 0, 0 changed another word, 0 good graphs answered 9
+//
+//     part                                    means
+//     answered 0: A 3: B ..                   of N calls A answered 0, B refused by 3, and so on
+//     0 words outside changed                 no call changed a word that it was not lent, or one past what the limits need
+//     0 changed another word                  none that refused changed a word of the slice for a list, and none but by 9 a word of the graph
+//     C refused calls set scratch words to 0  except this: find_best refused by 8 leaves a scratch part at 0 that was not, as broken words may have it
+//     0 good graphs answered 9                on graphs that calls had made, two fifths of the turns, none answered 9
+//
+// The 0s are what is claimed. A, B and C are what came out of a run: egg has no words that could be broken so, and no other source says them.
+mod answers;
+mod building;
+mod calls;
+mod spoiling;
+mod tally;
+mod text;
+mod trials;
+mod words;
+
+const TURNS: u64 = 2000;
+
+fn report(which: u64, name: &[u8]) {
+    let mut t = [0u64; tally::TALLY];
+    trials::trials(which, TURNS, &mut t);
+    text::report(name, &t);
+}
+
+fn on_nodes() {
+    report(0, b"find");
+    report(1, b"lookup");
+    report(2, b"id_to_node");
+}
+
+fn on_counts() {
+    report(3, b"is_empty");
+    report(4, b"clean");
+    report(5, b"number_of_classes");
+    report(6, b"total_number_of_nodes");
+}
+
+fn on_changes() {
+    report(7, b"setup");
+    report(8, b"add");
+    report(9, b"add_uncanonical");
+}
+
+fn on_unions() {
+    report(10, b"union");
+    report(11, b"rebuild");
+    report(12, b"find_best_cost");
+}
+
+fn on_lists() {
+    report(13, b"classes");
+    report(14, b"classes_for_op");
+    report(15, b"nodes");
+    report(16, b"find_best");
+}
+
+fn main() {
+    on_nodes();
+    on_counts();
+    on_changes();
+    on_unions();
+    on_lists();
+}
