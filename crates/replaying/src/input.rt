@@ -1,10 +1,15 @@
 // Standard input read in pieces, its lines answered, the answers written out.
-ghost use Prim.Native.Nat.{_≤_};
+ghost use mathlib.Core.Path.{_≡_};
+ghost use Prim.Native.Nat.{_+_, _*_, _≤_};
+ghost use lib.ListN.{length, take};
 ghost use Rattle.io.specs.Counts.{Counts};
 ghost use Rattle.replaying.specs.Calls.{Sound};
+ghost use Rattle.replaying.specs.Said.{Room, Said, Answers, told-line};
+ghost use Rattle.script.specs.Puts.{Wrote};
 use super::LINE;
 use super::LIST;
 use super::OUT;
+use super::Progress;
 use super::Told;
 use super::WORDS;
 use super::calls::make;
@@ -25,6 +30,7 @@ fn within(s: &[u8], at: usize) -> usize
 
 fn words_within(s: &[u32], at: usize) -> usize
     ensures { λ r. ⌜ Counts r (now (s .entry)) ⌝ }
+    ensures { λ r. ⌜ take r (now (s .entry)) ≡ take at (now (s .entry)) ⌝ }
 {
     if at <= s.len() {
         return at;
@@ -32,41 +38,81 @@ fn words_within(s: &[u32], at: usize) -> usize
     s.len()
 }
 
-// Writes out the first bytes.
-fn flush(out: &[u8], at: usize) {
-    let n = within(out, at);
-    io::write_all(1, &out[..n]);
-}
-
-// The answer behind those that stand there, which are written out first where it might not fit.
-fn say(out: &mut [u8], at: usize, told: Told, list: &[u32]) -> usize {
-    let n = words_within(list, told.words);
-    if LIST < n {
-        return at;
-    }
-    let start = room(out, at);
-    if out.len() < start + 11 * n + 43 {
-        return start;
-    }
-    let reply = told.reply;
-    script::put_reply(out, start, reply, &list[..n])
-}
-
-fn room(out: &[u8], at: usize) -> usize
-    ensures { λ r. ⌜ r ≤ 65536 ⌝ }
+// Writes the answers out. What a failed write loses is told at the end.
+fn flush(out: &[u8], p: Progress) -> Progress
+    ensures { λ r. ⌜ r .at ≡ 0 ⌝ }
 {
-    if at <= FULL {
-        return at;
+    let n = within(out, p.at);
+    let done = io::write_all(1, &out[..n]);
+    Progress {
+        used: p.used,
+        at: 0,
+        open: p.open && done,
+        unread: p.unread,
+        unwritten: p.unwritten || !done,
     }
-    flush(out, at);
-    0
 }
 
-fn answer(ws: &mut [u32], list: &mut [u32], out: &mut [u8], at: usize, call: Call) -> usize
+// Answers that have grown long are written out.
+fn make_room(out: &[u8], p: Progress) -> Progress
+    ensures { λ r. ⌜ Room (p .at) (r .at) ⌝ }
+{
+    if FULL < p.at {
+        return flush(out, p);
+    }
+    p
+}
+
+// The line that tells an answer, with its words from the start of the list.
+fn put_told(out: &mut [u8], at: usize, told: Told, list: &[u32]) -> usize
+    requires { ⌜ at + 11 * length (now list) + 43 ≤ length (now out) ⌝ }
+    ensures { λ r. ⌜ Wrote (now (out .entry)) at (told-line told (now (list .entry))) r (now (out .exit)) ⌝ }
+{
+    let n = words_within(list, told.words);
+    let reply = told.reply;
+    script::put_reply(out, at, reply, &list[..n])
+}
+
+// The answer behind those that stand there.
+fn say(out: &mut [u8; OUT], p: Progress, told: Told, list: &[u32; LIST]) -> Progress
+    ensures { λ r. ⌜ Said (now (out .entry)) (p .at) told (now (list .entry)) (r .at) (now (out .exit)) ⌝ }
+{
+    let q = make_room(out, p);
+    let at = put_told(out, q.at, told, list);
+    Progress {
+        used: q.used,
+        at,
+        open: q.open,
+        unread: q.unread,
+        unwritten: q.unwritten,
+    }
+}
+
+fn answer(
+    ws: &mut [u32; WORDS],
+    list: &mut [u32; LIST],
+    out: &mut [u8; OUT],
+    p: Progress,
+    call: Call,
+) -> Progress
     requires { ⌜ Sound call ⌝ }
+    ensures { λ r. ⌜ Answers call (now (ws .entry)) (now (list .entry)) (now (out .entry)) (p .at) (now (ws .exit)) (now (list .exit)) (now (out .exit)) (r .at) ⌝ }
 {
     let told = make(ws, list, call);
-    say(out, at, told, list)
+    say(out, p, told, list)
+}
+
+// So many bytes of a line are kept.
+fn kept(p: Progress, used: usize) -> Progress
+    ensures { λ r. ⌜ r .at ≡ p .at ⌝ }
+{
+    Progress {
+        used,
+        at: p.at,
+        open: p.open,
+        unread: p.unread,
+        unwritten: p.unwritten,
+    }
 }
 
 // One byte: kept, or the answer to a whole line.
@@ -75,17 +121,14 @@ fn take(
     list: &mut [u32; LIST],
     line: &mut [u8; LINE],
     out: &mut [u8; OUT],
-    used: &mut usize,
-    at: usize,
+    p: Progress,
     b: u8,
-) -> usize {
+) -> Progress {
     if b != 10 {
-        *used = gather(line, *used, b);
-        return at;
+        return kept(p, gather(line, p.used, b));
     }
-    let call = heard(line, *used);
-    *used = 0;
-    answer(ws, list, out, at, call)
+    let call = heard(line, p.used);
+    answer(ws, list, out, kept(p, 0), call)
 }
 
 fn gather(line: &mut [u8], used: usize, b: u8) -> usize {
@@ -105,36 +148,55 @@ fn feed(
     list: &mut [u32; LIST],
     line: &mut [u8; LINE],
     out: &mut [u8; OUT],
-    used: &mut usize,
-    at: usize,
+    p: Progress,
     piece: &[u8],
-) -> usize {
-    let mut now = at;
+) -> Progress {
+    let mut now = p;
     let mut i = 0;
     while i < piece.len() {
-        now = take(ws, list, line, out, used, now, piece[i]);
+        now = take(ws, list, line, out, now, piece[i]);
         i += 1;
     }
     now
 }
 
-// Reads once, takes what came, and answers whether to go on.
+// The input has ended, or could not be read.
+fn closed(p: Progress, unread: bool) -> Progress {
+    Progress {
+        used: p.used,
+        at: p.at,
+        open: false,
+        unread,
+        unwritten: p.unwritten,
+    }
+}
+
+// Reads once, takes what came, and writes the answers out, so that someone who types sees them.
 fn turn(
     ws: &mut [u32; WORDS],
     list: &mut [u32; LIST],
     line: &mut [u8; LINE],
     out: &mut [u8; OUT],
-    used: &mut usize,
-    at: &mut usize,
-) -> bool {
+    p: Progress,
+) -> Progress {
     let mut piece = io::buffer();
     let got = libc::read(0, &mut piece);
     if got <= 0 {
-        return false;
+        return closed(p, got < 0);
     }
     let n = io::count(got, &piece);
-    *at = feed(ws, list, line, out, used, *at, &piece[..n]);
-    true
+    let q = feed(ws, list, line, out, p, &piece[..n]);
+    flush(out, q)
+}
+
+// What went wrong with the input or the output, on standard error: a program has no exit status of its own.
+fn warn(p: Progress) {
+    if p.unread {
+        io::write_all(2, b"replay: standard input could not be read to its end\n");
+    }
+    if p.unwritten {
+        io::write_all(2, b"replay: standard output did not take all answers\n");
+    }
 }
 
 // All of the input; its last line need not end with a line feed.
@@ -144,14 +206,20 @@ pub fn run(
     line: &mut [u8; LINE],
     out: &mut [u8; OUT],
 ) {
-    let mut used = 0;
-    let mut at = 0;
+    let mut p = Progress {
+        used: 0,
+        at: 0,
+        open: true,
+        unread: false,
+        unwritten: false,
+    };
     let mut turns = u64::MAX;
-    while turns > 0 && turn(ws, list, line, out, &mut used, &mut at) {
+    while turns > 0 && p.open {
+        p = turn(ws, list, line, out, p);
         turns -= 1;
     }
-    if 0 < used {
-        at = take(ws, list, line, out, &mut used, at, 10);
+    if 0 < p.used {
+        p = take(ws, list, line, out, p, 10);
     }
-    flush(out, at);
+    warn(flush(out, p));
 }

@@ -22,6 +22,16 @@ pub struct Told {
     pub words: usize,
 }
 
+// What is under way: how many bytes of a line have been read, how many bytes of answers are not written out yet, whether there may be more to read, and whether a read or
+// a write has failed.
+pub struct Progress {
+    pub used: usize,
+    pub at: usize,
+    pub open: bool,
+    pub unread: bool,
+    pub unwritten: bool,
+}
+
 pub mod calls;
 pub mod input;
 

@@ -5,10 +5,10 @@ use Rattle.replaying.proofs.input.feed.Statement.{statement}
 use Rattle.replaying.proofs.input.feed.Tie as tie
 
 abbrev Inv-loop : tie.InvT-loop
-Inv-loop ws₀ list₀ line₀ out₀ used₀ at piece now₀ i₀ ws list line out used now i = i ≤ length piece
+Inv-loop ws₀ list₀ line₀ out₀ piece now₀ i₀ ws list line out now i = i ≤ length piece
 
 abbrev μ-loop : tie.MeasureT-loop
-μ-loop ws₀ list₀ line₀ out₀ used₀ at piece now₀ i₀ ws list line out used now i = length piece - i
+μ-loop ws₀ list₀ line₀ out₀ piece now₀ i₀ ws list line out now i = length piece - i
 
 pub feed-spec : {M : Type 1} → statement M
 feed-spec =

@@ -1,13 +1,12 @@
-use Prim.Native.Nat.{_-_}
 use borrow.Author.Needs.{needs}
 use Rattle.replaying.proofs.input.run.Statement.{statement}
 use Rattle.replaying.proofs.input.run.Tie as tie
 
 abbrev Inv-loop : tie.InvT-loop
-Inv-loop ws₀ list₀ line₀ out₀ used₀ at₀ turns₀ ws list line out used at turns = Unit {0}
+Inv-loop ws₀ list₀ line₀ out₀ p₀ turns₀ ws list line out p turns = Unit {0}
 
 abbrev μ-loop : tie.MeasureT-loop
-μ-loop ws₀ list₀ line₀ out₀ used₀ at₀ turns₀ ws list line out used at turns = turns
+μ-loop ws₀ list₀ line₀ out₀ p₀ turns₀ ws list line out p turns = turns
 
 pub run-spec : {M : Type 1} → statement M
 run-spec =
@@ -20,6 +19,7 @@ run-spec =
     (λ c. search needs)
     (λ c. search needs)
     (λ c. search needs)
+    (λ c κs. search needs)
     (λ c κs. search needs)
     (λ c κs. search needs)
     (λ c. search needs))
