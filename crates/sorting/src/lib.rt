@@ -9,7 +9,7 @@
 // A merge sort from the top down. A merge drops what is equal, so that a run is strictly ascending and needs no last pass.
 ghost use mathlib.Core.Path.{_≡_};
 ghost use mathlib.Core.Bool.{true};
-ghost use Prim.Native.Nat.{ℕ, _+_, _≤_, _<_, _^_};
+ghost use Prim.Native.Nat.{ℕ, _+_, _-_, _≤_, _<_, _^_};
 ghost use lib.ListN.{length};
 ghost use Rattle.lists.specs.Reads.{at};
 ghost use Rattle.lists.specs.Tests.{Says};
@@ -59,6 +59,48 @@ fn compare(ws: &[u32], n: usize, m: usize, i: usize, j: usize) -> Ordering
     u.node.order(v.node)
 }
 
+// The next id is the first of the left stretch.
+fn take_left(i: usize, a: usize, j: usize, b: usize) -> Turn
+    requires { ⌜ (0 < a) × (i + a ≤ j) ⌝ }
+    ensures { λ r. ⌜ r ≡ record { from = i; i = i + 1; a = a - 1; j = j; b = b } ⌝ }
+{
+    Turn {
+        from: i,
+        i: i + 1,
+        a: a - 1,
+        j,
+        b,
+    }
+}
+
+// The next id is the first of the right stretch.
+fn take_right(i: usize, a: usize, j: usize, b: usize) -> Turn
+    requires { ⌜ (0 < b) × (j + b < 2 ^ 64) ⌝ }
+    ensures { λ r. ⌜ r ≡ record { from = j; i = i; a = a; j = j + 1; b = b - 1 } ⌝ }
+{
+    Turn {
+        from: j,
+        i,
+        a,
+        j: j + 1,
+        b: b - 1,
+    }
+}
+
+// The two stretches begin with equal nodes: the next id is the left one, and the right one is passed over.
+fn take_both(i: usize, a: usize, j: usize, b: usize) -> Turn
+    requires { ⌜ (0 < a) × (i + a ≤ j) × (0 < b) × (j + b < 2 ^ 64) ⌝ }
+    ensures { λ r. ⌜ r ≡ record { from = i; i = i + 1; a = a - 1; j = j + 1; b = b - 1 } ⌝ }
+{
+    Turn {
+        from: i,
+        i: i + 1,
+        a: a - 1,
+        j: j + 1,
+        b: b - 1,
+    }
+}
+
 // Which id comes next, of a ids at i and b ids at j.
 fn next(ws: &[u32], n: usize, m: usize, i: usize, a: usize, j: usize, b: usize) -> Turn
     requires { ⌜ (size n m ≤ length (now ws)) × (i + a ≤ j) × (j + b ≤ length (now ws)) × (0 < a + b) ⌝ }
@@ -66,45 +108,15 @@ fn next(ws: &[u32], n: usize, m: usize, i: usize, a: usize, j: usize, b: usize) 
     ensures { λ r. ⌜ Turned (now (ws .entry)) n m i a j b r ⌝ }
 {
     if a == 0 {
-        return Turn {
-            from: j,
-            i,
-            a,
-            j: j + 1,
-            b: b - 1,
-        };
+        return take_right(i, a, j, b);
     }
     if b == 0 {
-        return Turn {
-            from: i,
-            i: i + 1,
-            a: a - 1,
-            j,
-            b,
-        };
+        return take_left(i, a, j, b);
     }
     match compare(ws, n, m, i, j) {
-        Ordering::Less => Turn {
-            from: i,
-            i: i + 1,
-            a: a - 1,
-            j,
-            b,
-        },
-        Ordering::Equal => Turn {
-            from: i,
-            i: i + 1,
-            a: a - 1,
-            j: j + 1,
-            b: b - 1,
-        },
-        Ordering::Greater => Turn {
-            from: j,
-            i,
-            a,
-            j: j + 1,
-            b: b - 1,
-        },
+        Ordering::Less => take_left(i, a, j, b),
+        Ordering::Equal => take_both(i, a, j, b),
+        Ordering::Greater => take_right(i, a, j, b),
     }
 }
 
