@@ -2,11 +2,13 @@
 ghost use mathlib.Core.Path.{_≡_};
 ghost use Prim.Native.Nat.{ℕ, _*_, _<_, _^_};
 ghost use lib.ListN.{length, set, replicate};
+ghost use Rattle.lists.specs.Tests.{Says};
 ghost use Rattle.layout.specs.Cut.{owners, scratch, sorting};
 ghost use Rattle.layout.specs.View.{View, view};
 ghost use Rattle.layout.specs.Lent.{Lent, Stored, Loaded};
 ghost use Rattle.layout.specs.Head.{Fits};
 use super::Head;
+use super::is_zero;
 use super::load;
 use super::zero;
 
@@ -65,6 +67,18 @@ pub fn set_scratch(ws: &mut [u32], h: Head, i: usize, v: usize)
     let a = 32 + 22 * n + 4 * m;
     let e = a + 6 * n;
     store(&mut ws[a..e], i, v);
+}
+
+// Whether the scratch part is 0.
+pub fn scratch_is_clear(ws: &[u32], h: Head) -> bool
+    requires { ⌜ Fits (length (now ws)) h ⌝ }
+    ensures { λ r. ⌜ Says r (view (h .n) (h .m) (now (ws .entry)) .scratch ≡ replicate (6 * h .n) 0) ⌝ }
+{
+    let n = h.n;
+    let m = h.m;
+    let a = 32 + 22 * n + 4 * m;
+    let e = a + 6 * n;
+    is_zero(&ws[a..e])
 }
 
 // Sets the scratch part to 0.

@@ -20,6 +20,7 @@ pub mod arrays; // arrays.rt: owners and scratch, which are plain arrays
 pub use arrays::clear_scratch;
 pub use arrays::owner;
 pub use arrays::scratch;
+pub use arrays::scratch_is_clear;
 pub use arrays::set_owner;
 pub use arrays::set_scratch;
 pub use arrays::set_work;
@@ -76,6 +77,20 @@ pub fn zero(ws: &mut [u32])
         ws[i] = 0;
         i += 1;
     }
+}
+
+// Whether every word of the slice is 0.
+fn is_zero(ws: &[u32]) -> bool
+    ensures { λ r. ⌜ Says r (now (ws .entry) ≡ replicate (length (now (ws .entry))) 0) ⌝ }
+{
+    let mut i = 0;
+    while i < ws.len() {
+        if ws[i] != 0 {
+            return false;
+        }
+        i += 1;
+    }
+    true
 }
 
 // ---- the head
