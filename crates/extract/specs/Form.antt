@@ -1,6 +1,6 @@
--- What `find_best` promises: 3, 4 and 7 exactly when document 01 says, with no word changed; else the scratch part is 0 afterwards and no other word of the graph has
--- changed, and the only numbers left are 9 and 8, with the slice as it was. On words that hold a graph 8 comes exactly when the form is longer than the slice, and else
--- the answer is the price of the id's class, with the words of its listing at the start of the slice and nothing changed behind them.
+-- What `find_best` promises: no word of the graph changes, whatever it answers. 3, 4 and 7 come exactly when document 01 says; the only numbers left are 9 and 8, and
+-- every refusal leaves the slice as it was. On words that hold a graph 8 comes exactly when the form is longer than the slice, and else the answer is the price of the
+-- id's class, with the words of its listing at the start of the slice and nothing changed behind them.
 -- Assumes nothing.
 use mathlib.Core.Bool.{false, true}
 use mathlib.Core.List.{List, [], _∷_}
@@ -14,7 +14,7 @@ use lib.ListN.{drop, length, take}
 use Rattle.lists.specs.Sets.{sets-after, sets-stand}
 use Rattle.steps.specs.Classes.{class-nodes, class-roots}
 use Rattle.steps.specs.Graph.{Graph, root}
-use Rattle.egraph.specs.Answers.{Answer, Else, SameLimits, Unless-3, head-of, limits-stay, never, nine, no-by, number-of, past, past-rest, yes-with}
+use Rattle.egraph.specs.Answers.{Answer, Else, Unless-3, head-of, never, nine, no-by, number-of, yes-with}
 use Rattle.egraph.specs.declared.Refusal.{Refusal}
 use Rattle.egraph.specs.declared.Refusal.the-variants.{BrokenWords, TooLong}
 use Rattle.eclass.specs.Pieces.{Wrote, pieces}
@@ -27,7 +27,7 @@ use Rattle.holds.specs.Holds.{Holds}
 use Rattle.holds.specs.HoldsLaws.{holds-in}
 use Rattle.layout.specs.Cut.{scratch}
 use Rattle.layout.specs.Head.{HeadIs}
-use Rattle.layout.specs.Lent.{Lent, lent-head, lent-map, lent-twice}
+use Rattle.layout.specs.Lent.{Lent, lent-map, lent-twice}
 use Rattle.layout.specs.View.{View, hd, view}
 use Rattle.layout.specs.declared.Head.{Head}
 use Rattle.price.specs.Chosen.{backed, ranked}
@@ -41,7 +41,7 @@ use Rattle.pricing.specs.Laid.{Laid}
 use Rattle.walking.specs.Walk.{FormLaid, ListsForm, Ready}
 use Rattle.walking.specs.declared.Listed.{Listed}
 use Rattle.walking.specs.declared.Listed.the-variants.{ListedBroken, ListedIs}
-use Rattle.extract.specs.Cost.{ScratchCleared, cleared-holds}
+use Rattle.extract.specs.Cost.{ScratchClear}
 use Rattle.extract.specs.Priced.{PricedAs, PricesClass, cost-of, priced-not}
 use Rattle.extract.specs.declared.FormAnswer.{FormAnswer}
 use Rattle.extract.specs.declared.FormAnswer.the-variants.{FormIs, FormNot}
@@ -78,24 +78,22 @@ pub record FormFair (out : List ℕ) (r : FormAnswer) (out′ : List ℕ) : Type
   pub size : length out′ ≡ length out
   pub refused : (k : ℕ) → form-says r ≡ no-by k → ((k ≡ 9) ⊎ (k ≡ 8)) × (out′ ≡ out)
 
-pub record FormOpen (ws : List ℕ) (i : ℕ) (out : List ℕ) (r : FormAnswer) (ws′ out′ : List ℕ) : Type 0 where
-  pub cleared : ScratchCleared (head-of ws .n) (head-of ws .m) ws ws′
-  pub rest : past ws ws′ ≡ past ws ws
-  pub limits : SameLimits ws ws′
+pub record FormOpen (ws : List ℕ) (i : ℕ) (out : List ℕ) (r : FormAnswer) (out′ : List ℕ) : Type 0 where
   pub fair : FormFair out r out′
-  pub sound : (g : Graph) → Holds ws g → KidsKnown g → FormAs (form-of g i) out r out′ (cost-of g i) × Holds ws′ g
+  pub sound : (g : Graph) → Holds ws g → KidsKnown g → FormAs (form-of g i) out r out′ (cost-of g i)
 
--- refused by k: nothing is changed
-abbrev pub FormNo : List ℕ → List ℕ → FormAnswer → List ℕ → List ℕ → ℕ → Type 0
-FormNo ws out r ws′ out′ k = (form-says r ≡ no-by k) × (ws′ ≡ ws) × (out′ ≡ out)
+-- refused by k: the slice is as it was
+abbrev pub FormNo : List ℕ → FormAnswer → List ℕ → ℕ → Type 0
+FormNo out r out′ k = (form-says r ≡ no-by k) × (out′ ≡ out)
 
 pub record FormSays (ws : List ℕ) (i : ℕ) (out : List ℕ) (r : FormAnswer) (ws′ out′ : List ℕ) : Type 0 where
+  pub same : ws′ ≡ ws
   pub inside : (s k : ℕ) → r ≡ FormIs s k → k ≤ length out
   pub says :
-      Unless-3 ws (FormNo ws out r ws′ out′ 3)
-      (Else (head-of ws .ids ≤ i) (FormNo ws out r ws′ out′ 4) (i < head-of ws .ids)
-      (Else (head-of ws .clean ≡ false) (FormNo ws out r ws′ out′ 7) (head-of ws .clean ≡ true)
-      (FormOpen ws i out r ws′ out′)))
+      Unless-3 ws (FormNo out r out′ 3)
+      (Else (head-of ws .ids ≤ i) (FormNo out r out′ 4) (i < head-of ws .ids)
+      (Else (head-of ws .clean ≡ false) (FormNo out r out′ 7) (head-of ws .clean ≡ true)
+      (FormOpen ws i out r out′)))
 
 -- ---- the listing
 
@@ -281,19 +279,13 @@ module _ (h : Head) (i : ℕ) (ws ws1 out : List ℕ) (o : Outline) (L : ListsOu
 
 -- ---- the call
 
-pub form-open : (h : Head) (i : ℕ) (ws ws1 ws2 ws3 out out′ : List ℕ) (r : FormAnswer) → HeadIs (length ws) (hd ws) h → h .clean ≡ true
-    → ScratchCleared (h .n) (h .m) ws ws1 → FormsOut h i ws1 out r ws2 out′ → ScratchCleared (h .n) (h .m) ws2 ws3 → FormOpen ws i out r ws3 out′
-form-open h i ws ws1 ws2 ws3 out out′ r q c A W B =
-    let t : ScratchCleared (h .n) (h .m) ws ws3 = lent-twice (λ a b d p u. u) A (lent-twice (λ a b d p u. u) (W .only) B) in
-    record {
-      cleared = subst (λ (k : Head). ScratchCleared (k .n) (k .m) ws ws3) (q .is) t;
-      rest = past-rest ws h q ws3 (ap (λ (v : View). v .rest) (t .else));
-      limits = limits-stay ws ws3 (lent-head t);
-      fair = W .fair;
-      sound = λ g H K.
-          let H1 = cleared-holds h ws ws1 g q A H in
-          (W .sound g H1 (sym (holds-in ws h g q H .clean-is) ∙ c) K, cleared-holds h ws ws3 g q t H);
-    }
+module _ (h : Head) (i : ℕ) (ws out : List ℕ) (q : HeadIs (length ws) (hd ws) h) where
+  -- a scratch part that is not free: no words that hold a graph have one
+  pub form-blocked : (ScratchClear (h .n) (h .m) ws → ⊥) → FormOpen ws i out (FormNot BrokenWords) out
+  form-blocked b = record { fair = fair-nine out; sound = λ g H K. absurd (b (holds-in ws h g q H .scratch)) }
+
+  pub form-worked : h .clean ≡ true → (r : FormAnswer) (ws1 out′ : List ℕ) → FormsOut h i ws out r ws1 out′ → FormOpen ws i out r out′
+  form-worked c r ws1 out′ W = record { fair = W .fair; sound = λ g H K. W .sound g H (sym (holds-in ws h g q H .clean-is) ∙ c) K }
 
 -- refused before the work: an answer is none
 pub no-form : (n : ℕ) (q : Refusal) (s k : ℕ) → FormNot q ≡ FormIs s k → k ≤ n

@@ -57,13 +57,16 @@ fn form_out(ws: &mut [u32], h: Head, id: Id, out: &mut [u32]) -> FormAnswer
     }
 }
 
-// A known id in a clean graph.
+// A known id in a clean graph. A scratch part that is not 0 is not free for the work: no calls left it so.
 fn form_open(ws: &mut [u32], h: Head, id: Id, out: &mut [u32]) -> FormAnswer
     requires { ⌜ HeadIs (length (now ws)) (hd (now ws)) h ⌝ }
     requires { ⌜ (id .0 < h .ids) × (h .clean ≡ true) ⌝ }
-    ensures { λ r. ⌜ FormOpen (now (ws .entry)) (id .0) (now (out .entry)) r (now (ws .exit)) (now (out .exit)) ⌝ }
+    ensures { λ r. ⌜ now (ws .exit) ≡ now (ws .entry) ⌝ }
+    ensures { λ r. ⌜ FormOpen (now (ws .entry)) (id .0) (now (out .entry)) r (now (out .exit)) ⌝ }
 {
-    layout::clear_scratch(ws, h);
+    if !layout::scratch_is_clear(ws, h) {
+        return FormAnswer::FormNot(Refusal::BrokenWords);
+    }
     let answer = form_out(ws, h, id, out);
     layout::clear_scratch(ws, h);
     answer

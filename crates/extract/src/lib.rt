@@ -1,5 +1,5 @@
 // Sizes of classes and cheapest forms, with AstSize: egg's `Extractor` over words that the caller lends. The graph is read through its promises: the head, the root that `find` answers,
-// and the nodes of each class, by which `pricing` works the prices out in the scratch part. That part is set to 0 before the work and after it.
+// and the nodes of each class, by which `pricing` works the prices out in the scratch part. That part is 0 before the work, else the words are broken, and is set to 0 after it: no word changes.
 ghost use mathlib.Core.Bool.{true};
 ghost use mathlib.Core.Path.{_≡_};
 ghost use Prim.Native.Nat.{_<_};
@@ -72,13 +72,16 @@ fn work_out(ws: &mut [u32], h: Head, id: Id) -> CostAnswer
     }
 }
 
-// A known id in a clean graph.
+// A known id in a clean graph. A scratch part that is not 0 is not free for the work: no calls left it so.
 fn cost_open(ws: &mut [u32], h: Head, id: Id) -> CostAnswer
     requires { ⌜ HeadIs (length (now ws)) (hd (now ws)) h ⌝ }
     requires { ⌜ (id .0 < h .ids) × (h .clean ≡ true) ⌝ }
-    ensures { λ r. ⌜ CostOpen (now (ws .entry)) (id .0) r (now (ws .exit)) ⌝ }
+    ensures { λ r. ⌜ now (ws .exit) ≡ now (ws .entry) ⌝ }
+    ensures { λ r. ⌜ CostOpen (now (ws .entry)) (id .0) r ⌝ }
 {
-    layout::clear_scratch(ws, h);
+    if !layout::scratch_is_clear(ws, h) {
+        return CostAnswer::CostNot(Refusal::BrokenWords);
+    }
     let answer = work_out(ws, h, id);
     layout::clear_scratch(ws, h);
     answer

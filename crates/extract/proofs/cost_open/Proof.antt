@@ -1,21 +1,24 @@
-use Rattle.layout.specs.Head.{lent-is}
-use Rattle.extract.specs.Cost.{cost-open}
+use mathlib.Core.Path.{refl}
+use Rattle.extract.specs.Cost.{cost-blocked, cost-worked, scratch-back}
 use borrow.Author.Needs.{needs}
+use borrow.Author.Tests.{not-false, not-true}
 use Rattle.extract.proofs.cost_open.Statement.{statement}
 use Rattle.extract.proofs.cost_open.Tie as tie
 
-work-out-requires : tie.Need-work-out-requires
-work-out-requires c κs = (lent-is (c .before .before .before .clear-scratch .ensures) (c .before .before .before .before .before .before .pre .0), c .before .before .before .before .before .before .pre .1 .0)
-
 returns : tie.Need-returns
-returns c = cost-open _ _ _ _ _ _ _ (c .before .before .before .before .before .before .before .before .before .before .before .before .before .pre .0) (c .before .before .before .before .before .before .before .before .before .before .before .before .before .pre .1 .1) (c .before .before .before .before .before .before .before .before .before .before .clear-scratch .ensures) (c .before .before .before .before .before .before .work-out .ensures) (c .before .before .clear-scratch2 .ensures)
+returns c = (refl, cost-blocked _ _ _ (c .before .before .before .before .pre .0) (c .before .scratch-is-clear .ensures .fails (not-true _ (c .if1 .taken))))
+
+returns-2 : tie.Need-returns-2
+returns-2 c = (scratch-back (c .before .before .before .before .before .before .before .before .before .scratch-is-clear .ensures .holds (not-false _ (c .before .before .before .before .before .before .before .before .if1 .left))) (c .before .before .before .before .before .before .work-out .ensures .only) (c .before .before .clear-scratch .ensures), cost-worked _ _ _ (c .before .before .before .before .before .before .before .before .before .before .before .before .pre .0) (c .before .before .before .before .before .before .before .before .before .before .before .before .pre .1 .1) _ _ (c .before .before .before .before .before .before .work-out .ensures))
 
 pub cost-open-spec : {M : Type 1} → statement M
 cost-open-spec =
     tie.close
     (tie.spec
     (λ c κs. search needs)
-    work-out-requires
+    (λ c. search needs)
+    returns
+    (λ c κs. search needs)
     (λ c κs. search needs)
     (λ c. search needs)
-    returns)
+    returns-2)
