@@ -91,7 +91,7 @@ module _ (us : List (ℕ × ℕ)) (ws : List ℕ) (g : Graph) (C : Run us ws g) 
       let o = s .on (C .holds .good) .sound g us (C .holds) (C .made) y t z R in
       (o .0, record { made = rebuilt R (C .made); holds = o .1 })
 
-  -- refused calls leave the words, so the graph and the unions asked for stay
+  -- refused calls leave the words, as sizes and forms always do, so the graph and the unions asked for stay
   pub run-refused : (ws′ : List ℕ) → ws′ ≡ ws → Run us ws′ g
   run-refused ws′ e = rw e C
 

@@ -1,26 +1,23 @@
 -- What the promise of `find_best` comes to: on words that calls made, the words that are written are the spelling of nodes which show, at the last place, a form of the
 -- asked class, and no form of the class is smaller; the size answered is the form's, capped at 2^64 - 1; 8 comes exactly when the slice is too short for them, and 9
--- never. No word of the graph changes where the scratch part was 0, and two outcomes are one.
+-- never. And two outcomes are one. That no word of the graph changes is in the promise itself.
 -- Assumes nothing.
 use mathlib.Core.Bool.{true}
 use mathlib.Core.List.{List, _++_}
 use mathlib.Core.Logic.{_⊎_, inl, inr}
 use mathlib.Core.Option.{Option, none, some}
 use mathlib.Core.Path.{_∙_, _≡_, ap, subst, sym}
-use Prim.Native.Nat.{_*_, _<_, _≤_, min, suc, ℕ}
-use lib.ListN.{drop, length, replicate, take, take-append-drop}
+use Prim.Native.Nat.{_<_, _≤_, min, suc, ℕ}
+use lib.ListN.{drop, length, take, take-append-drop}
 use Rattle.lists.specs.Tests.{lt-or}
 use Rattle.language.specs.Term.{Term, spell}
 use Rattle.steps.specs.Forced.{Made}
 use Rattle.steps.specs.Graph.{Graph, ids, node, root}
 use Rattle.egraph.specs.Answers.{head-of}
-use Rattle.extract.specs.Form.{FormAs, FormLists, FormOpen, FormSays, form-of, form-says}
+use Rattle.extract.specs.Form.{FormAs, FormLists, FormSays, form-of, form-says}
 use Rattle.extract.specs.Priced.{cost-of}
 use Rattle.extract.specs.declared.FormAnswer.{FormAnswer}
 use Rattle.holds.specs.Holds.{Holds}
-use Rattle.layout.specs.Cut.{scratch}
-use Rattle.layout.specs.View.{put, view}
-use Rattle.layout.specs.Whole.{view-whole}
 use Rattle.price.specs.Extract.{Form-of, listing, table}
 use Rattle.price.specs.Form.{Form, In, in-map}
 use Rattle.price.specs.Listing.{Stands-at, in-order}
@@ -71,35 +68,20 @@ pub record BestForm (g : Graph) (i : ℕ) (out : List ℕ) (r : FormAnswer) (out
   pub is : FormLists (min (ast-size (shows .shape)) cap) (spell nodes) out r out′
 
 module _ (us : List (ℕ × ℕ)) (ws : List ℕ) (g : Graph) (C : Run us ws g) where
-  -- a known id of a clean graph
-  pub run-form : (i : ℕ) (out : List ℕ) (r : FormAnswer) (ws′ out′ : List ℕ) → FormSays ws i out r ws′ out′ → g .clean ≡ true → i < ids g → BestForm g i out r out′ × Run us ws′ g
+  -- a known id of a clean graph: the slice has a smallest form, and no word of the graph has changed
+  pub run-form : (i : ℕ) (out : List ℕ) (r : FormAnswer) (ws′ out′ : List ℕ) → FormSays ws i out r ws′ out′ → g .clean ≡ true → i < ids g → BestForm g i out r out′ × (ws′ ≡ ws)
   run-form i out r ws′ out′ S c lt =
       let I = C .holds .at-rest in
       let o = S .says .on (C .holds .good) .on (rw (I .ids-are) lt) .on (I .clean-is ∙ c) .sound g (C .holds) (made-known (C .made)) in
       let s = listing-shows (C .made) i lt in
-      let w : FormLists (s .size .best .price) (form-of g i) out r out′ = subst (λ (b : Option (Best ℕ)). FormAs (form-of g i) out r out′ b) (s .size .entry) (o .0) in (
+      let w : FormLists (s .size .best .price) (form-of g i) out r out′ = subst (λ (b : Option (Best ℕ)). FormAs (form-of g i) out r out′ b) (s .size .entry) o in (
         record {
           nodes = in-order (listing g (table AstSize g) (root (g .roots) i));
           shows = s;
           is = subst (λ (p : ℕ). FormLists p (form-of g i) out r out′) (s .size .is ∙ sym (s .at-size)) w;
         },
-        record { made = C .made; holds = o .1 },
+        S .same,
       )
-
--- ---- the words afterwards, on any words
-
-module _ (ws : List ℕ) (i : ℕ) (out : List ℕ) where
-  -- where the scratch part was 0 no word of the graph has changed
-  pub form-still : (r : FormAnswer) (ws′ out′ : List ℕ) → FormOpen ws i out r ws′ out′ → view (head-of ws .n) (head-of ws .m) ws .scratch ≡ replicate (6 * head-of ws .n) 0 → ws′ ≡ ws
-  form-still r ws′ out′ O z =
-      view-whole (head-of ws .n) (head-of ws .m) ws′ ws
-      (O .cleared .else ∙ ap (put scratch (view (head-of ws .n) (head-of ws .m) ws)) (O .cleared .did ∙ sym z))
-
-  -- whatever it was, they are settled
-  pub form-settled : (r r′ : FormAnswer) (ws1 ws1′ out1 out1′ : List ℕ) → FormOpen ws i out r ws1 out1 → FormOpen ws i out r′ ws1′ out1′ → ws1 ≡ ws1′
-  form-settled r r′ ws1 ws1′ out1 out1′ O Q =
-      view-whole (head-of ws .n) (head-of ws .m) ws1 ws1′
-      (O .cleared .else ∙ ap (put scratch (view (head-of ws .n) (head-of ws .m) ws)) (O .cleared .did ∙ sym (Q .cleared .did)) ∙ sym (Q .cleared .else))
 
 -- ---- two outcomes are one
 
@@ -120,9 +102,11 @@ same-lists s xs out r r′ o o′ p q = go (lt-or (length out) (length xs))
 pub form-one : (ws : List ℕ) (g : Graph) → Holds ws g → KidsKnown g → (i : ℕ) (out : List ℕ) (r r′ : FormAnswer) (ws1 ws1′ out1 out1′ : List ℕ)
     → FormSays ws i out r ws1 out1 → FormSays ws i out r′ ws1′ out1′ → (form-says r ≡ form-says r′) × (ws1 ≡ ws1′) × (out1 ≡ out1′)
 form-one ws g H K i out r r′ ws1 ws1′ out1 out1′ S T =
-    both-ends (or-lt i (head-of ws .ids)) (S .says .on (H .good)) (T .says .on (H .good)) (λ p q. (p .0 ∙ sym (q .0), p .1 ∙ sym (q .1), p .2 ∙ sym (q .2)))
-    (λ s t. both-ends (flag-or (head-of ws .clean)) s t (λ p q. (p .0 ∙ sym (q .0), p .1 ∙ sym (q .1), p .2 ∙ sym (q .2)))
-    (λ p q. let a = go (cost-of g i) (p .sound g H K .0) (q .sound g H K .0) in (a .0, form-settled ws i out r r′ ws1 ws1′ out1 out1′ p q, a .1)))
+    let a =
+    both-ends (or-lt i (head-of ws .ids)) (S .says .on (H .good)) (T .says .on (H .good)) (λ p q. (p .0 ∙ sym (q .0), p .1 ∙ sym (q .1)))
+    (λ s t. both-ends (flag-or (head-of ws .clean)) s t (λ p q. (p .0 ∙ sym (q .0), p .1 ∙ sym (q .1)))
+    (λ p q. go (cost-of g i) (p .sound g H K) (q .sound g H K))) in
+    (a .0, S .same ∙ sym (T .same), a .1)
   where
     go : (b : Option (Best ℕ)) → FormAs (form-of g i) out r out1 b → FormAs (form-of g i) out r′ out1′ b → (form-says r ≡ form-says r′) × (out1 ≡ out1′)
     go none p q = (p .0 ∙ sym (q .0), p .1 ∙ sym (q .1))
