@@ -16,6 +16,16 @@ use language::Op;
 
 pub const SETUP: u64 = 7;
 
+pub const REBUILD: u64 = 11;
+
+// Whether a call changes no word of the graph, whatever it answers: all but setup, the two adds, union and rebuild.
+pub fn keeps_words(which: u64) -> bool {
+    if which < SETUP {
+        return true;
+    }
+    REBUILD < which
+}
+
 fn id(seed: u64) -> Id {
     Id(draw_word(seed, 40, 10))
 }

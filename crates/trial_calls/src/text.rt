@@ -26,13 +26,11 @@ fn answers(t: &[u64; TALLY]) {
     }
 }
 
-fn claims(outside: u64, cleared: u64, lapses: u64, nines: u64) {
+fn claims(outside: u64, lapses: u64, nines: u64) {
     number(outside);
     io::write_all(1, b" words outside changed,");
-    number(cleared);
-    io::write_all(1, b" refused calls set scratch words to 0,");
     number(lapses);
-    io::write_all(1, b" changed another word,");
+    io::write_all(1, b" calls changed a word that they must keep,");
     number(nines);
     io::write_all(1, b" good graphs answered 9\n");
 }
@@ -44,10 +42,5 @@ pub fn report(name: &[u8], t: &[u64; TALLY]) {
     io::write_all(1, b" calls, answered");
     answers(t);
     io::write_all(1, b";");
-    claims(
-        t[tally::OUTSIDE],
-        t[tally::CLEARED],
-        t[tally::LAPSES],
-        t[tally::NINES],
-    );
+    claims(t[tally::OUTSIDE], t[tally::LAPSES], t[tally::NINES]);
 }

@@ -13,39 +13,29 @@ use super::words::TO;
 use super::words::draw;
 use super::words::next;
 
-// Where the words that a call is lent end, where the scratch part starts, where the words end that the call may change, and where the slice for a list ends.
+// Where the words that a call is lent end, where those of them end that its limits need, and where the slice for a list ends.
 struct Plan {
     end: usize,
-    scratch: usize,
     reach: usize,
     list: usize,
 }
 
-// How many words the limits need, and how many of them stand before the scratch part.
-struct Need {
-    scratch: usize,
-    all: usize,
-}
-
-// Nothing where the limits are out of range, as the call then refuses.
-fn need_by(n: u32, m: u32) -> Need
-    ensures { λ r. ⌜ (r .scratch ≤ 3000000) × (r .all ≤ 3000000) ⌝ }
+// How many words the limits need; none where they are out of range, as the call then refuses.
+fn need_by(n: u32, m: u32) -> usize
+    ensures { λ r. ⌜ r ≤ 3000000 ⌝ }
 {
     if 65536 < n {
-        return Need { scratch: 0, all: 0 };
+        return 0;
     }
     if 262144 < m {
-        return Need { scratch: 0, all: 0 };
+        return 0;
     }
-    Need {
-        scratch: 32 + 22 * n as usize + 4 * m as usize,
-        all: 32 + 28 * n as usize + 4 * m as usize,
-    }
+    32 + 28 * n as usize + 4 * m as usize
 }
 
 // By the limits of a setup, or else by those that stand in the head.
-fn need_of(ws: &[u32; SIZE], which: u64, seed: u64) -> Need
-    ensures { λ r. ⌜ (r .scratch ≤ 3000000) × (r .all ≤ 3000000) ⌝ }
+fn need_of(ws: &[u32; SIZE], which: u64, seed: u64) -> usize
+    ensures { λ r. ⌜ r ≤ 3000000 ⌝ }
 {
     if which == calls::SETUP {
         return need_by(calls::limit_ids(seed), calls::limit_places(seed));
@@ -80,11 +70,9 @@ fn plan_of(ws: &[u32; SIZE], which: u64, kind: u64, seed: u64) -> Plan
     ensures { λ r. ⌜ (64 ≤ r .end) × (r .end ≤ 576) × (r .reach ≤ 576) × (64 ≤ r .list) × (r .list ≤ 576) ⌝ }
 {
     let end = end_of(kind, seed);
-    let need = need_of(ws, which, seed);
     Plan {
         end: end,
-        scratch: least(end, FROM + need.scratch),
-        reach: least(end, FROM + need.all),
+        reach: least(end, FROM + need_of(ws, which, seed)),
         list: FROM + draw(seed, 52, 80),
     }
 }
@@ -106,9 +94,9 @@ fn counted(ws: &mut [u32; SIZE], which: u64, kind: u64, seed: u64, t: &mut [u64;
     let p = plan_of(ws, which, kind, seed);
     let number = lend(ws, &mut out, p.end, p.list, which, seed);
     tally::answered(t, number, kind);
-    let graph = tally::compare(&old, ws, p.scratch, p.reach);
-    let list = tally::compare(&blank, &out, p.list, p.list);
-    tally::changes(t, number, graph, list);
+    let graph = tally::compare(&old, ws, p.reach);
+    let list = tally::compare(&blank, &out, p.list);
+    tally::changes(t, which, number, graph, list);
 }
 
 fn trial(which: u64, turn: u64, t: &mut [u64; TALLY]) {
