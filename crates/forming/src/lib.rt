@@ -7,8 +7,7 @@
 //   4n + p             the class at place p
 //
 // and of the part `rows` the key of an id. On any words a place that leads nowhere makes `measure_form` answer broken; `put_form` asks that there is none.
-ghost use mathlib.Core.Path.{_≡_};
-ghost use Prim.Native.Nat.{ℕ, _+_, _<_, _≤_, _^_};
+ghost use Prim.Native.Nat.{ℕ, _+_, _<_, _≤_};
 ghost use lib.ListN.{length};
 ghost use Rattle.language.specs.Term.{places};
 ghost use Rattle.language.specs.Struct.{nodeOf};
@@ -21,6 +20,7 @@ ghost use Rattle.forming.specs.Form.{FormMeasured, NodeMeasured};
 use language::Id;
 use language::Node;
 use language::Op;
+use language::wide;
 use layout::Head;
 
 // Whether a node could be read, and every child has a place; broken are words that no calls could have produced.
@@ -39,12 +39,6 @@ pub struct Placed {
 pub enum FormLength {
     FormLengthIs(usize),
     FormLengthBroken,
-}
-
-fn wide(x: u32) -> usize
-    ensures { λ r. ⌜ (r ≡ x) × (r < 2 ^ 32) ⌝ }
-{
-    x as usize
 }
 
 // ---- one node

@@ -5,9 +5,10 @@ use mathlib.Core.List.{List, [], _∷_, _++_, foldl, foldl-append}
 use Prim.Native.Nat.{ℕ, _+_, _≤_, _<_, min}
 use native.Mathlib.Omega.{arith}
 use native.Mathlib.Numerals.{add-one}
-use lib.ListN.{length, take, length-take, length-map, List·getD-map}
-use lib.Seq.{take-suc}
+use lib.ListN.{length, set, take, length-take, length-map, List·getD-map}
+use lib.Seq.{sets, take-suc}
 use Rattle.lists.specs.Reads.{at}
+use Rattle.lists.specs.Stores.{sets-more}
 use Rattle.language.specs.declared.Id.{Id}
 use Rattle.language.specs.declared.Node.{Node}
 use Rattle.language.specs.declared.Ordering.{Ordering}
@@ -21,6 +22,12 @@ pub row-more : (x : Node) → Full x → (i : ℕ) → i < places → take (i + 
 row-more x f i h =
     let l : i < length (row x) = simp length-map (omega arith) in
     rw (add-one i, take-suc (row x) i 0 l, List·getD-map (λ (k : Id). k .0) (x .kids) i (record { 0 = 0 })) refl
+
+-- ---- children stored
+
+pub put-more : (x : Node) → Full x → (l : List ℕ) (p i : ℕ) → i < places → set (sets l p (take i (row x))) (p + i) (place x i) ≡ sets l p (take (i + 1) (row x))
+put-more x f l p i h =
+    rw (← List·getD-map (λ (k : Id). k .0) (x .kids) i (record { 0 = 0 })) (sets-more l (row x) p i (simp length-map (omega arith)))
 
 -- ---- equal children
 

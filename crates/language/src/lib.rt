@@ -5,6 +5,7 @@ ghost use mathlib.Core.Path.{_≡_};
 ghost use mathlib.Core.List.{List, [], _∷_, _++_, foldl};
 ghost use Prim.Native.Nat.{ℕ, _+_, _≤_, _<_, _^_};
 ghost use lib.ListN.{length, getD, set};
+ghost use lib.Seq.{sets};
 ghost use Rattle.lists.specs.Reads.{at};
 ghost use Rattle.lists.specs.Tests.{Says};
 ghost use Rattle.language.specs.Term.{places, Term, Match, grown, rekid};
@@ -36,7 +37,8 @@ pub enum Ordering {
     Greater,
 }
 
-fn wide(x: u32) -> usize
+// The word as a number of the machine's size: it is below 2 ^ 32.
+pub fn wide(x: u32) -> usize
     ensures { λ r. ⌜ (r ≡ x) × (r < 2 ^ 32) ⌝ }
 {
     x as usize
@@ -222,5 +224,19 @@ impl Node {
         let n = mix(p, self.count);
         let h = self.hash_kids(n);
         h as u32
+    }
+}
+
+// A node's children, one after another from a place on.
+pub fn put_kids(ws: &mut [u32], place: usize, node: Node)
+    requires { ⌜ (node .count ≤ places) × (place + node .count ≤ length (now ws)) ⌝ }
+    ensures { λ r. ⌜ now (ws .exit) ≡ sets (now (ws .entry)) place (nodeOf node .kids) ⌝ }
+{
+    let n = wide(node.count);
+    let mut i: usize = 0;
+    while i < n {
+        let k = node.kids[i];
+        ws[place + i] = k.0;
+        i += 1;
     }
 }

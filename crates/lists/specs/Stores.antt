@@ -6,9 +6,10 @@ use mathlib.Core.Logic.{_≢_}
 use mathlib.Core.List.{List, [], _∷_, _++_}
 use Prim.Native.Nat.{ℕ, zero, suc, _+_, _≤_, _<_}
 use native.Mathlib.Nat.{not-suc-le-zero, add-zero}
+use native.Mathlib.Numerals.{add-one}
 use native.Mathlib.Omega.{arith}
-use lib.ListN.{length, getD, set, drop, length-set}
-use lib.Seq.{sets, length-sets, getD-set-same, getD-set-other}
+use lib.ListN.{length, getD, set, drop, length-set, take}
+use lib.Seq.{sets, length-sets, length-take-le, getD-set-same, getD-set-other, take-suc}
 use Rattle.lists.specs.Reads.{at}
 
 -- ---- single words
@@ -57,11 +58,18 @@ sets-hit (v ∷ vs) l p (suc j) h k =
     let e : p + suc j ≡ suc p + j = omega arith in
     rw e (sets-hit vs (set l p v) (suc p) j (omega arith) (rw length-set (omega arith)))
 
-pub sets-snoc : (vs l : List ℕ) (p v : ℕ) → sets l p (vs ++ (v ∷ [])) ≡ set (sets l p vs) (p + length vs) v
-sets-snoc [] l p v = rw add-zero refl
-sets-snoc (u ∷ vs) l p v =
-    let e : p + suc (length vs) ≡ suc p + length vs = omega arith in
-    rw e (sets-snoc vs (set l p u) (suc p) v)
+-- one stretch behind another
+pub sets-append : (us vs l : List ℕ) (p : ℕ) → sets l p (us ++ vs) ≡ sets (sets l p us) (p + length us) vs
+sets-append [] vs l p = rw add-zero refl
+sets-append (u ∷ us) vs l p =
+    let e : p + suc (length us) ≡ suc p + length us = omega arith in
+    rw e (sets-append us vs (set l p u) (suc p))
+
+-- a loop that stores vs from p on: one word more
+pub sets-more : (l vs : List ℕ) (p i : ℕ) → i < length vs → set (sets l p (take i vs)) (p + i) (at vs i) ≡ sets l p (take (i + 1) vs)
+sets-more l vs p i h =
+    let e : length (take i vs) ≡ i = length-take-le i vs (omega arith) in
+    rw (add-one i, take-suc vs i 0 h, sets-append (take i vs) (at vs i ∷ []) l p, e) refl
 
 -- ---- several stretches
 

@@ -27,6 +27,7 @@ ghost use Rattle.pricing.specs.Costs.{FindsCosts};
 use cells::Change;
 use language::Id;
 use language::Node;
+use language::wide;
 use layout::Head;
 
 // The greatest price.
@@ -57,12 +58,6 @@ pub enum Chosen {
 pub enum Taken {
     TakenIs(usize),
     TakenBroken,
-}
-
-fn wide(x: u32) -> usize
-    ensures { λ r. ⌜ (r ≡ x) × (r < 2 ^ 32) ⌝ }
-{
-    x as usize
 }
 
 // The sum, or the greatest price.

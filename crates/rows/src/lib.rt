@@ -14,7 +14,6 @@ ghost use mathlib.Core.Path.{_≡_};
 ghost use mathlib.Core.List.{List};
 ghost use Prim.Native.Nat.{ℕ, _+_, _≤_, _<_, _^_};
 ghost use lib.ListN.{length, take, drop};
-ghost use lib.Seq.{sets};
 ghost use Rattle.language.specs.Term.{Term, places};
 ghost use Rattle.language.specs.Struct.{nodeOf};
 ghost use Rattle.rows.specs.Rows.{size};
@@ -23,6 +22,8 @@ ghost use Rattle.rows.specs.Promise.{Reads, Given, Key, Stored, Keyed};
 use language::Id;
 use language::Node;
 use language::Op;
+use language::put_kids;
+use language::wide;
 
 // Whether a read found a node, or a child count or places that no calls could have written.
 pub enum Fetch {
@@ -40,26 +41,6 @@ pub struct Fetched {
 pub enum Rekey {
     RekeyDone,
     RekeyBroken,
-}
-
-fn wide(x: u32) -> usize
-    ensures { λ r. ⌜ (r ≡ x) × (r < 2 ^ 32) ⌝ }
-{
-    x as usize
-}
-
-// A node's children, one after another from a place on.
-fn put_kids(ws: &mut [u32], place: usize, node: Node)
-    requires { ⌜ (node .count ≤ places) × (place + node .count ≤ length (now ws)) ⌝ }
-    ensures { λ r. ⌜ now (ws .exit) ≡ sets (now (ws .entry)) place (nodeOf node .kids) ⌝ }
-{
-    let n = wide(node.count);
-    let mut i: usize = 0;
-    while i < n {
-        let k = node.kids[i];
-        ws[place + i] = k.0;
-        i += 1;
-    }
 }
 
 // A leaf, with the children that stand from a place on.

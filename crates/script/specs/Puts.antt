@@ -5,15 +5,15 @@ use mathlib.Core.Path.{_≡_, refl, sym, ap, subst, _∙_}
 use mathlib.Core.List.{List, [], _∷_, _++_, append-assoc, append-nil}
 use Prim.Native.Nat.{ℕ, zero, suc, _+_, _*_, _-_, _/_, _%_, _^_, _≤_, _<_}
 use native.Mathlib.Decide.{decLt}
-use native.Mathlib.Nat.{add-zero, pow-suc}
+use native.Mathlib.Nat.{pow-suc}
 use native.Mathlib.Numerals.{add-one}
 use native.Mathlib.Omega.{arith}
 use lib.Dec.{lit≤}
-use lib.ListN.{length, getD, take, set, length-append}
-use lib.Seq.{sets, length-sets, length-take-le, take-all, take-suc}
+use lib.ListN.{length, getD, take, length-append}
+use lib.Seq.{sets, length-sets, take-all, take-suc}
 use borrow.Author.Tests.{lt-ltb, le-ltb}
 use Rattle.io.specs.Digits.{digits, Fewest}
-use Rattle.lists.specs.Stores.{sets-snoc}
+use Rattle.lists.specs.Stores.{sets-append}
 use Rattle.script.specs.Decimal.{decimal, decimal-in}
 use Rattle.script.specs.DecimalLaws.{decimal-is}
 use Rattle.script.specs.Reply.{reply-line, word, words}
@@ -27,11 +27,6 @@ pub record Wrote (out : List ℕ) (at : ℕ) (bs : List ℕ) (r : ℕ) (out′ :
 
 -- ---- one byte after the other
 
-pub put-more : (out src : List ℕ) (at i : ℕ) → i < length src → set (sets out at (take i src)) (at + i) (getD src i 0) ≡ sets out at (take (i + 1) src)
-put-more out src at i h =
-    let e : length (take i src) ≡ i = length-take-le i src (omega arith) in
-    rw (add-one i, take-suc src i 0 h, sets-snoc (take i src) out at (getD src i 0), e) refl
-
 pub put-done : (out out′ src : List ℕ) (at i : ℕ) → at + length src ≤ length out → i ≤ length src → length src ≤ i → out′ ≡ sets out at (take i src) → Wrote out at src (at + i) out′
 put-done out out′ src at i f l m e = record { text = e ∙ ap (λ (s : List ℕ). sets out at s) (take-all i src m); next = omega arith; fits = omega arith }
 
@@ -39,12 +34,6 @@ pub put-none : (out : List ℕ) (at : ℕ) → at ≤ length out → Wrote out a
 put-none out at h = record { text = refl; next = omega arith; fits = h }
 
 -- ---- one thing behind another
-
-sets-append : (bs cs l : List ℕ) (p : ℕ) → sets l p (bs ++ cs) ≡ sets (sets l p bs) (p + length bs) cs
-sets-append [] cs l p = rw add-zero refl
-sets-append (b ∷ bs) cs l p =
-    let e : p + suc (length bs) ≡ suc p + length bs = omega arith in
-    rw e (sets-append bs cs (set l p b) (suc p))
 
 module _ {o : List ℕ} {at : ℕ} {bs : List ℕ} {r : ℕ} {o₁ : List ℕ} (w : Wrote o at bs r o₁) where
   pub wrote-size : length o₁ ≡ length o

@@ -23,6 +23,7 @@ ghost use Rattle.sorting.specs.Join.{Near, Meet, Joins};
 ghost use Rattle.sorting.specs.Promise.{Sorts};
 use language::Id;
 use language::Ordering;
+use language::wide;
 
 // How many ids are left; or that one of the words is no id.
 pub enum Sorted {
@@ -37,12 +38,6 @@ struct Turn {
     a: usize,
     j: usize,
     b: usize,
-}
-
-fn wide(x: u32) -> usize
-    ensures { λ r. ⌜ (r ≡ x) × (r < 2 ^ 32) ⌝ }
-{
-    x as usize
 }
 
 // The order of the ids at i and j: that of their keys.

@@ -2,22 +2,14 @@
 -- Assumes nothing.
 use mathlib.Core.List.{List}
 use mathlib.Core.Path.{_∙_, _≡_, ap, refl}
-use Prim.Native.Nat.{_+_, _<_, _≤_, suc, ℕ}
+use Prim.Native.Nat.{_+_, _≤_, suc, ℕ}
 use native.Mathlib.Omega.{arith}
-use lib.ListN.{drop, length, length-map, length-take, set, take}
+use lib.ListN.{drop, length, set, take}
 use lib.Seq.{length-sets, sets}
 use Rattle.lists.specs.Sets.{sets-after, sets-before, sets-stand}
-use Rattle.lists.specs.Stores.{sets-snoc}
-use Rattle.language.specs.Loops.{row-more}
-use Rattle.language.specs.Struct.{Full, count-kids, nodeOf, place, row}
+use Rattle.language.specs.Struct.{Full, count-kids, nodeOf}
 use Rattle.language.specs.Term.{places, words}
 use Rattle.language.specs.declared.Node.{Node}
-
--- one child more
-pub put-more : (x : Node) → Full x → (l : List ℕ) (p i : ℕ) → i < places → set (sets l p (take i (row x))) (p + i) (place x i) ≡ sets l p (take (i + 1) (row x))
-put-more x f l p i h =
-    let e : length (take i (row x)) ≡ i = simp (length-take, length-map) (omega arith) in
-    rw (row-more x f i h, sets-snoc (take i (row x)) l p (place x i), e) refl
 
 -- out′ is out with the words of the node x from p on, and r is the place behind them
 pub record Puts (out : List ℕ) (p : ℕ) (x : Node) (r : ℕ) (out′ : List ℕ) : Type 0 where

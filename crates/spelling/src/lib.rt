@@ -8,33 +8,14 @@
 //
 // The place behind it is the next node's. `words` and `spell` of language's specs/Term.antt say the same of plain nodes.
 ghost use mathlib.Core.Path.{_≡_};
-ghost use Prim.Native.Nat.{_+_, _≤_, _<_, _^_};
+ghost use Prim.Native.Nat.{_+_, _≤_};
 ghost use lib.ListN.{length};
-ghost use lib.Seq.{sets};
 ghost use Rattle.language.specs.Term.{Term, places, words};
 ghost use Rattle.language.specs.Struct.{nodeOf};
 ghost use Rattle.spelling.specs.Puts.{Puts};
 use language::Node;
-
-fn wide(x: u32) -> usize
-    ensures { λ r. ⌜ (r ≡ x) × (r < 2 ^ 32) ⌝ }
-{
-    x as usize
-}
-
-// A node's children, one after another from a place on.
-fn put_kids(out: &mut [u32], place: usize, node: Node)
-    requires { ⌜ (node .count ≤ places) × (place + node .count ≤ length (now out)) ⌝ }
-    ensures { λ r. ⌜ now (out .exit) ≡ sets (now (out .entry)) place (nodeOf node .kids) ⌝ }
-{
-    let n = wide(node.count);
-    let mut i: usize = 0;
-    while i < n {
-        let k = node.kids[i];
-        out[place + i] = k.0;
-        i += 1;
-    }
-}
+use language::put_kids;
+use language::wide;
 
 // How many words a node takes.
 pub fn node_length(node: Node) -> usize

@@ -9,8 +9,7 @@
 //
 // A step takes the class on top of the stack, and looks for the first child of its chosen node that is not listed. If there is one, it goes onto the stack; if there is
 // none, the class is listed and taken off.
-ghost use mathlib.Core.Path.{_≡_};
-ghost use Prim.Native.Nat.{_+_, _<_, _≤_, _^_};
+ghost use Prim.Native.Nat.{_+_, _<_, _≤_};
 ghost use lib.ListN.{length};
 ghost use Rattle.language.specs.Term.{places};
 ghost use Rattle.language.specs.Struct.{nodeOf};
@@ -23,6 +22,7 @@ ghost use Rattle.walking.specs.Step.{ListsAt, Steps};
 ghost use Rattle.walking.specs.Walk.{ListsForm, Walks};
 use language::Id;
 use language::Node;
+use language::wide;
 use layout::Head;
 
 // A child that is not listed, or none; broken are words that no calls could have produced.
@@ -47,12 +47,6 @@ pub enum Stepped {
 pub enum Listed {
     ListedIs(usize),
     ListedBroken,
-}
-
-fn wide(x: u32) -> usize
-    ensures { λ r. ⌜ (r ≡ x) × (r < 2 ^ 32) ⌝ }
-{
-    x as usize
 }
 
 // ---- the next child

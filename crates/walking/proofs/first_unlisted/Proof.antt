@@ -8,11 +8,6 @@ use Rattle.layout.specs.View.{view}
 use Rattle.walking.specs.Kids.{Looking, look-all, look-found, look-more, look-start, look-stray}
 use Rattle.walking.proofs.first_unlisted.Statement.{statement}
 use Rattle.walking.proofs.first_unlisted.Tie as tie
-use Rattle.walking.proofs.first_unlisted.Reads as reads
-use Rattle.walking.proofs.first_unlisted.Lts as lts
-use Rattle.language.proofs.Node.child.Reads as child-reads
-use Rattle.layout.proofs.scratch.Reads as scratch-reads
-use Rattle.walking.proofs.wide.Reads as wide-reads
 
 abbrev Inv-loop : tie.InvT-loop
 Inv-loop ws h node n k i₀ i = (i ≤ k) × Looking (h .n) (h .ids) (view (h .n) (h .m) ws .scratch) (nodeOf node) i
@@ -20,23 +15,9 @@ Inv-loop ws h node n k i₀ i = (i ≤ k) × Looking (h .n) (h .ids) (view (h .n
 abbrev μ-loop : tie.MeasureT-loop
 μ-loop ws h node n k i₀ i = k - i
 
--- src/lib.rt:46:9
-wide-requires : tie.Need-wide-requires Inv-loop μ-loop
-wide-requires c κs = search needs
-
--- src/lib.rt:48:5
 loop-holds : tie.Need-loop-holds Inv-loop μ-loop
 loop-holds c = (omega arith, look-start _ _ _ _)
 
--- src/lib.rt:49:22
-child-requires : tie.Need-child-requires Inv-loop μ-loop
-child-requires c κs = search needs
-
--- src/lib.rt:49:13
-wide-requires-2 : tie.Need-wide-requires-2 Inv-loop μ-loop
-wide-requires-2 c κs = search needs
-
--- src/lib.rt:51:13
 returns : tie.Need-returns Inv-loop μ-loop
 returns c =
     let x = (c .before .before .before .before .before .before .before .before .args .node) in
@@ -44,19 +25,6 @@ returns c =
     let w = (c .before .before .before .before .before .before .wide .ensures .0) in
     look-stray _ _ _ _ (c .before .before .before .before .before .loop .i) _ (omega (arith, (c .before .before .before .before .loop-test .taken))) ((c .before .before .wide2 .ensures .0) ∙ (c .before .before .before .child .ensures)) (c .if1 .taken)
 
--- src/lib.rt:53:44
-mul-scratch : tie.Need-mul-scratch Inv-loop μ-loop
-mul-scratch c = search needs
-
--- src/lib.rt:53:44
-add-scratch : tie.Need-add-scratch Inv-loop μ-loop
-add-scratch c = search needs
-
--- src/lib.rt:53:13
-scratch-requires : tie.Need-scratch-requires Inv-loop μ-loop
-scratch-requires c κs = search needs
-
--- src/lib.rt:55:13
 returns-2 : tie.Need-returns-2 Inv-loop μ-loop
 returns-2 c =
     let x = (c .before .before .before .before .before .before .before .before .before .before .args .node) in
@@ -64,15 +32,6 @@ returns-2 c =
     let w = (c .before .before .before .before .before .before .before .before .wide .ensures .0) in
     look-found _ _ _ _ (c .before .before .before .before .before .before .before .loop .i) _ _ (c .before .before .before .before .before .before .before .loop .inv .1) (omega (arith, (c .before .before .before .before .before .before .loop-test .taken))) ((c .before .before .before .before .wide2 .ensures .0) ∙ (c .before .before .before .before .before .child .ensures)) (omega (arith, (c .before .before .if1 .left))) (c .before .before .before .before .before .before .before .before .before .before .pre .0 .ids-in) (c .before .scratch .ensures) (c .if2 .taken)
 
--- src/lib.rt:57:9
-add-i : tie.Need-add-i Inv-loop μ-loop
-add-i c = search needs
-
--- src/lib.rt:48:5
-loop-less : tie.Need-loop-less Inv-loop μ-loop
-loop-less c = search needs
-
--- src/lib.rt:48:5
 loop-again : tie.Need-loop-again Inv-loop μ-loop
 loop-again c =
     let x = (c .before .before .before .before .before .before .before .before .before .before .args .node) in
@@ -80,7 +39,6 @@ loop-again c =
     let w = (c .before .before .before .before .before .before .before .before .wide .ensures .0) in
     (omega arith, look-more _ _ _ _ (c .before .before .before .before .before .before .before .loop .i) _ _ (c .before .before .before .before .before .before .before .loop .inv .1) (omega (arith, (c .before .before .before .before .before .before .loop-test .taken))) ((c .before .before .before .before .wide2 .ensures .0) ∙ (c .before .before .before .before .before .child .ensures)) (omega (arith, (c .before .before .if1 .left))) (c .before .before .before .before .before .before .before .before .before .before .pre .0 .ids-in) (c .before .scratch .ensures) (c .if2 .left))
 
--- src/lib.rt:40:1
 returns-3 : tie.Need-returns-3 Inv-loop μ-loop
 returns-3 c =
     let x = (c .before .before .before .before .args .node) in
@@ -94,16 +52,16 @@ first-unlisted-spec =
     (tie.spec
     Inv-loop
     μ-loop
-    wide-requires
+    (λ c κs. search needs)
     loop-holds
-    child-requires
-    wide-requires-2
+    (λ c κs. search needs)
+    (λ c κs. search needs)
     returns
-    mul-scratch
-    add-scratch
-    scratch-requires
+    (λ c. search needs)
+    (λ c. search needs)
+    (λ c κs. search needs)
     returns-2
-    add-i
-    loop-less
+    (λ c. search needs)
+    (λ c. search needs)
     loop-again
     returns-3)

@@ -3,7 +3,8 @@ use Prim.Native.Nat.{_≤_, _-_}
 use lib.ListN.{length, take, length-set}
 use lib.Seq.{sets}
 use borrow.Author.Needs.{needs}
-use Rattle.script.specs.Puts.{put-more, put-done}
+use Rattle.lists.specs.Stores.{sets-more}
+use Rattle.script.specs.Puts.{put-done}
 use Rattle.script.proofs.replies.put.Statement.{statement}
 use Rattle.script.proofs.replies.put.Tie as tie
 
@@ -17,7 +18,7 @@ loop-holds : tie.Need-loop-holds Inv-loop μ-loop
 loop-holds c = (search needs, refl, refl)
 
 loop-again : tie.Need-loop-again Inv-loop μ-loop
-loop-again c = (search needs, simp length-set (c .before .before .loop .inv .1), rw (c .before .before .loop .inv .2) (put-more _ _ _ _ (c .before .loop-test .taken)))
+loop-again c = (search needs, simp length-set (c .before .before .loop .inv .1), rw (c .before .before .loop .inv .2) (sets-more _ _ _ _ (c .before .loop-test .taken)))
 
 same-length : tie.Need-same-length Inv-loop μ-loop
 same-length c = c .before .loop .inv .1

@@ -4,17 +4,17 @@ use native.Mathlib.Omega.{arith}
 use borrow.Author.Needs.{needs}
 use lib.ListN.{length, take, length-set}
 use lib.Seq.{sets}
 use Rattle.language.proofs.Sized.{sized}
 use Rattle.language.specs.Struct.{row, nodeOf}
-use Rattle.spelling.specs.Puts.{put-more}
-use Rattle.spelling.proofs.put_kids.Statement.{statement}
-use Rattle.spelling.proofs.put_kids.Tie as tie
+use Rattle.language.specs.Loops.{put-more}
+use Rattle.language.proofs.put_kids.Statement.{statement}
+use Rattle.language.proofs.put_kids.Tie as tie
 
 abbrev Inv-loop : tie.InvT-loop
-Inv-loop out₀ place node n i₀ out i = (i ≤ n) × (length out ≡ length out₀) × (out ≡ sets out₀ place (take i (row node)))
+Inv-loop ws₀ place node n i₀ ws i = (i ≤ n) × (length ws ≡ length ws₀) × (ws ≡ sets ws₀ place (take i (row node)))
 
 abbrev μ-loop : tie.MeasureT-loop
-μ-loop out₀ place node n i₀ out i = n - i
+μ-loop ws₀ place node n i₀ ws i = n - i
 
 wide-requires : tie.Need-wide-requires Inv-loop μ-loop
 wide-requires c κs = search needs
@@ -28,14 +28,14 @@ mul-k c = search needs
 element-copy-out-k : tie.Need-element-copy-out-k Inv-loop μ-loop
 element-copy-out-k c = search needs
 
-add-out : tie.Need-add-out Inv-loop μ-loop
-add-out c = search needs
+add-ws : tie.Need-add-ws Inv-loop μ-loop
+add-ws c = search needs
 
-mul-out : tie.Need-mul-out Inv-loop μ-loop
-mul-out c = search needs
+mul-ws : tie.Need-mul-ws Inv-loop μ-loop
+mul-ws c = search needs
 
-slice-write-out : tie.Need-slice-write-out Inv-loop μ-loop
-slice-write-out c = search needs
+slice-write-ws : tie.Need-slice-write-ws Inv-loop μ-loop
+slice-write-ws c = search needs
 
 add-i : tie.Need-add-i Inv-loop μ-loop
 add-i c = search needs
@@ -47,7 +47,7 @@ loop-again : tie.Need-loop-again Inv-loop μ-loop
 loop-again c =
     let l = c .before .before in
     let s = l .before .before .before in
-    (omega arith, simp length-set (l .loop .inv .1), rw (l .loop .inv .2) (put-more (s .args .t3) (sized (s .args .t3) (s .good .1 .1 .0)) (s .args .out .now) (s .args .place) (l .loop .i) (omega arith)))
+    (omega arith, simp length-set (l .loop .inv .1), rw (l .loop .inv .2) (put-more (s .args .t3) (sized (s .args .t3) (s .good .1 .1 .0)) (s .args .ws .now) (s .args .place) (l .loop .i) (omega arith)))
 
 same-length : tie.Need-same-length Inv-loop μ-loop
 same-length c = c .before .loop .inv .1
@@ -70,9 +70,9 @@ put-kids-spec =
     loop-holds
     mul-k
     element-copy-out-k
-    add-out
-    mul-out
-    slice-write-out
+    add-ws
+    mul-ws
+    slice-write-ws
     add-i
     loop-less
     loop-again
