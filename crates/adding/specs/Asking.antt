@@ -1,24 +1,23 @@
--- The ways out of `known` and of `probe`.
+-- The ways out of `probe`.
 -- Assumes nothing.
 use mathlib.Core.List.{List}
-use mathlib.Core.Logic.{_≢_, _⊎_, inl, inr}
 use mathlib.Core.Option.{none, some}
 use mathlib.Core.Path.{_∙_, _≡_, ap, refl, sym}
-use Prim.Native.Nat.{_+_, _<_, _≤_, ℕ}
+use Prim.Native.Nat.{_<_, _≤_, ℕ}
 use native.Mathlib.Decide.{decLt}
 use native.Mathlib.Omega.{arith}
 use lib.ListN.{length}
 use Rattle.holds.specs.HoldsLaws.{root-again}
 use Rattle.lists.specs.Options.{none≢some}
 use Rattle.lists.specs.Reads.{at}
-use Rattle.lists.specs.Tests.{eq-or, when, when-no, when-yes}
+use Rattle.lists.specs.Tests.{when, when-no, when-yes}
 use Rattle.language.specs.Struct.{nodeOf}
 use Rattle.language.specs.Term.{Term}
 use Rattle.language.specs.declared.Id.{Id}
 use Rattle.language.specs.declared.Node.{Node}
 use Rattle.steps.specs.Graph.{Graph, canon, ids, kept}
 use Rattle.closure.specs.Tables.{canon-live}
-use Rattle.adding.specs.Says.{Known, Probes, seen-as}
+use Rattle.adding.specs.Says.{Probes, seen-as}
 use Rattle.adding.specs.declared.Seen.{Seen}
 use Rattle.adding.specs.declared.Seen.the-variants.{SeenAt, SeenBroken, SeenNone}
 use Rattle.growing.specs.Roots.{WithRoots}
@@ -31,17 +30,6 @@ use Rattle.layout.specs.declared.Head.{Head}
 use Rattle.table.specs.Asking.{Answers}
 use Rattle.table.specs.declared.Asked.{Asked}
 use Rattle.table.specs.declared.Asked.the-variants.{AskedAt, AskedBroken, AskedNone}
-
-pub known-less : (x : Term) (N i : ℕ) → i < length (x .kids) → N ≤ at (x .kids) i → Known x N → ⊥
-known-less x N i h e K = let q = K i h in omega arith
-
--- the ids below which a child was looked for: i of them are known
-pub known-more : (x : Term) (N i : ℕ) → ((j : ℕ) → j < i → at (x .kids) j < N) → at (x .kids) i < N → (j : ℕ) → j < i + 1 → at (x .kids) j < N
-known-more x N i K e j h = go (eq-or j i)
-  where
-    go : (j ≡ i) ⊎ (j ≢ i) → at (x .kids) j < N
-    go (inl q) = rw q e
-    go (inr q) = K j (omega arith)
 
 -- an id that the table answered
 pub judge-far : (N : ℕ) (a : Asked) (x : Id) → a ≡ AskedAt x → N ≤ x .0 → SeenBroken ≡ seen-as N a

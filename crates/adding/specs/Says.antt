@@ -8,7 +8,6 @@ use mathlib.Core.Path.{_≡_}
 use Prim.Native.Nat.{_+_, _<_, _≤_, ℕ}
 use native.Mathlib.Decide.{decLt}
 use lib.ListN.{length}
-use Rattle.lists.specs.Reads.{at}
 use Rattle.lists.specs.Tests.{when}
 use Rattle.language.specs.Struct.{nodeOf}
 use Rattle.language.specs.Term.{Term}
@@ -21,16 +20,13 @@ use Rattle.adding.specs.declared.Gave.the-variants.{GaveFull, GaveNew, G
 use Rattle.adding.specs.declared.Probed.{Probed}
 use Rattle.adding.specs.declared.Seen.{Seen}
 use Rattle.adding.specs.declared.Seen.the-variants.{SeenAt, SeenBroken, SeenNone}
+pub use Rattle.growing.specs.Known.{Known}
 use Rattle.holds.specs.Holds.{HoldsAt}
 use Rattle.holds.specs.Inside.{Inside, Near}
 use Rattle.layout.specs.View.{view}
 use Rattle.layout.specs.declared.Head.{Head}
 use Rattle.table.specs.declared.Asked.{Asked}
 use Rattle.table.specs.declared.Asked.the-variants.{AskedAt, AskedBroken, AskedNone}
-
--- every child is one of the first N ids
-abbrev pub Known : Term → ℕ → Type 0
-Known x N = (i : ℕ) → i < length (x .kids) → at (x .kids) i < N
 
 -- what the table answers, where an id must be one of the first N
 abbrev pub seen-as : ℕ → Asked → Seen

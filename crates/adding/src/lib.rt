@@ -8,10 +8,9 @@
 //
 // The head in the words stays: `give` answers the new numbers. What each function promises: specs/Says.antt.
 ghost use mathlib.Core.Path.{_≡_};
-ghost use Prim.Native.Nat.{ℕ, _<_, _≤_, _^_};
+ghost use Prim.Native.Nat.{ℕ, _<_, _≤_};
 ghost use lib.ListN.{length};
 ghost use Rattle.lists.specs.Reads.{at};
-ghost use Rattle.lists.specs.Tests.{Says};
 ghost use Rattle.language.specs.Term.{places};
 ghost use Rattle.language.specs.Struct.{nodeOf};
 ghost use Rattle.layout.specs.Head.{HeadOk};
@@ -19,6 +18,7 @@ ghost use Rattle.adding.specs.Says.{Known, seen-as, Probes, Gives};
 use holds::Stepped;
 use language::Id;
 use language::Node;
+use language::wide;
 use layout::Head;
 
 // What the table has for a node: an id, nothing, or words that no calls could have produced.
@@ -40,28 +40,6 @@ pub enum Gave {
     GaveNew(Head),
     GaveFull,
     GaveBroken,
-}
-
-fn wide(x: u32) -> usize
-    ensures { λ r. ⌜ (r ≡ x) × (r < 2 ^ 32) ⌝ }
-{
-    x as usize
-}
-
-// Whether every child is one of the first `ids` ids.
-pub fn known(node: Node, ids: usize) -> bool
-    requires { ⌜ node .count ≤ places ⌝ }
-    ensures { λ r. ⌜ Says r (Known (nodeOf node) ids) ⌝ }
-{
-    let n = wide(node.count);
-    let mut i: usize = 0;
-    while i < n {
-        if ids <= wide(node.child(i).0) {
-            return false;
-        }
-        i += 1;
-    }
-    true
 }
 
 // What the table has for the node with root children.

@@ -26,7 +26,7 @@ fn enter(ws: &[u32], node: Node) -> Gate
             if language::PLACES < count {
                 return Gate::GateNot(Refusal::TooManyChildren);
             }
-            if adding::known(node, h.ids) {
+            if growing::known(node, h.ids) {
                 return Gate::GateTo(h);
             }
             Gate::GateNot(Refusal::UnknownId)

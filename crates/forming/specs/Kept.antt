@@ -6,27 +6,18 @@ use mathlib.Core.Logic.{_≢_, _⊎_, inl, inr}
 use mathlib.Core.Option.{Option, none, some}
 use mathlib.Core.Path.{_∙_, _≡_, ap, refl, sym}
 use Prim.Native.Nat.{_<_, suc, zero, ℕ}
-use native.Mathlib.Decide.{ℕ-discrete}
 use native.Mathlib.Omega.{arith}
 use lib.ListN.{length}
 use Rattle.lists.specs.Members.{Mem, here, mem-at, there}
 use Rattle.lists.specs.Reads.{at, map-at}
-use Rattle.lists.specs.Tests.{eq-or, when-no, when-yes}
+use Rattle.lists.specs.Tests.{eq-or}
 use Rattle.language.specs.Term.{Term, term-path}
 use Rattle.price.specs.Chosen.{Backed, Deep, Ranked, no-circle}
 use Rattle.price.specs.Listing.{Listing, cheapest, each, enter, entry, or-zero, spot, spot-of, visit, with-places}
 use Rattle.price.specs.Pass.{Best, Table, look}
 use Rattle.price.specs.Rule.{Rule}
 use Rattle.price.specs.Shown.{Extends, Fine, Visited, each-visited, entry-here, entry-past, extends-more, visited}
-use Rattle.pricing.specs.Laid.{class-at}
-
-class-here : (p c : ℕ) (x : Term) (l : Listing) → p ≡ length l → class-at p ((c, x) ∷ l) ≡ c
-unfolding class-at
-class-here p c x l e = when-yes (ℕ-discrete p (length l)) c (class-at p l) e
-
-class-past : (p c : ℕ) (x : Term) (l : Listing) → p ≢ length l → class-at p ((c, x) ∷ l) ≡ class-at p l
-unfolding class-at
-class-past p c x l n = when-no (ℕ-discrete p (length l)) c (class-at p l) n
+use Rattle.pricing.specs.Laid.{class-at, class-here, class-past}
 
 -- each child is listed
 abbrev pub AllListed : Listing → Term → Type 0

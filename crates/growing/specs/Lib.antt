@@ -1,3 +1,4 @@
+pub mod Known
 pub mod Roots
 pub mod Store
 pub mod Enter

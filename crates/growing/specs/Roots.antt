@@ -1,17 +1,14 @@
--- A node with each child replaced by its root: what a loop over the children has done after i of them, and what `with_roots` promises.
+-- A node with each child replaced by its root: one child more, and what `with_roots` promises.
 -- Assumes nothing.
-use mathlib.Core.List.{List, [], _∷_, map}
-use mathlib.Core.Logic.{_≢_, _⊎_, inl, inr}
-use mathlib.Core.Path.{_∙_, _≡_, ap, refl}
-use Prim.Native.Nat.{_+_, _<_, _≤_, suc, zero, ℕ}
-use native.Mathlib.Numerals.{add-one}
+use mathlib.Core.List.{List}
+use mathlib.Core.Path.{_≡_, refl}
+use Prim.Native.Nat.{_+_, _<_, ℕ}
 use native.Mathlib.Omega.{arith}
-use lib.ListN.{getD, length, length-set, set}
-use lib.Seq.{getD-set-other, getD-set-same}
+use lib.ListN.{length}
 use Rattle.lists.specs.Reads.{at}
-use Rattle.lists.specs.Tests.{eq-or}
+use Rattle.language.specs.Partway.{Partway, partway-all, partway-more}
 use Rattle.language.specs.Struct.{nodeOf}
-use Rattle.language.specs.Term.{Term, rekid, term-path}
+use Rattle.language.specs.Term.{Term, rekid}
 use Rattle.language.specs.declared.Node.{Node}
 use Rattle.steps.specs.Graph.{Graph, canon, root}
 use Rattle.growing.specs.declared.Rooted.{Rooted}
@@ -25,64 +22,19 @@ use Rattle.unionfind.specs.Promise.{Finds}
 use Rattle.unionfind.specs.declared.Found.{Found}
 use Rattle.unionfind.specs.declared.Found.the-variants.{FoundLost, FoundRoot}
 
--- the first i children replaced by their roots
-abbrev partly : List ℕ → ℕ → List ℕ → List ℕ
-partly R zero ks = ks
-partly R (suc i) [] = []
-partly R (suc i) (k ∷ ks) = root R k ∷ partly R i ks
-
-partly-more : (R : List ℕ) (i : ℕ) (ks : List ℕ) → i < length ks → set (partly R i ks) i (root R (at ks i)) ≡ partly R (suc i) ks
-partly-more R zero [] h = absurd (omega arith)
-partly-more R (suc i) [] h = absurd (omega arith)
-partly-more R zero (k ∷ ks) h = refl
-partly-more R (suc i) (k ∷ ks) h = ap (λ (l : List ℕ). root R k ∷ l) (partly-more R i ks (omega arith))
-
-partly-all : (R ks : List ℕ) → partly R (length ks) ks ≡ map (root R) ks
-partly-all R [] = refl
-partly-all R (k ∷ ks) = ap (λ (l : List ℕ). root R k ∷ l) (partly-all R ks)
-
--- s is t with the first i children replaced by what was found for them in the forest f of N ids
-pub record Partway (f : List ℕ) (N i : ℕ) (t s : Term) : Type 0 where
-  pub op : s .op ≡ t .op
-  pub payload : s .payload ≡ t .payload
-  pub size : length (s .kids) ≡ length (t .kids)
-  pub low : (j : ℕ) → j < i → at (s .kids) j < N
-  pub rest : (j : ℕ) → i ≤ j → at (s .kids) j ≡ at (t .kids) j
-  pub are : (C : ℕ) (R : List ℕ) → Forest f N C R → s .kids ≡ partly R i (t .kids)
-
-pub partway-none : (f : List ℕ) (N : ℕ) (t : Term) → Partway f N 0 t t
-partway-none f N t = record { op = refl; payload = refl; size = refl; low = λ j h. absurd (omega arith); rest = λ j h. refl; are = λ C R F. refl }
+-- k is the root of c in the forest f of N ids
+pub record RootIs (f : List ℕ) (N c k : ℕ) : Type 0 where
+  pub low : k < N
+  pub law : (C : ℕ) (R : List ℕ) → Forest f N C R → k ≡ root R c
 
 -- one child more
-pub partway-more : (f : List ℕ) (N i k x : ℕ) (r : Found) (t s s′ : Term) → Partway f N i t s → i < length (t .kids) → k ≡ at (s .kids) i → Finds f N k r → r ≡ FoundRoot x
-    → s′ ≡ rekid s i x → Partway f N (i + 1) t s′
-unfolding rekid root
-partway-more f N i k x r t s s′ P h ek F er es =
-    rw es (record {
-      op = P .op;
-      payload = P .payload;
-      size = length-set (s .kids) i x ∙ P .size;
-      low = λ j l. below j l (eq-or j i);
-      rest = λ j l. getD-set-other (s .kids) i j x 0 (omega arith) ∙ P .rest j (omega arith);
-      are = λ C R G. more C R G;
-    })
+pub roots-more : (f : List ℕ) (N i c k : ℕ) (r : Found) (t s s′ : Term) → Partway (RootIs f N) i t s → i < length (t .kids) → c ≡ at (s .kids) i → Finds f N c r → r ≡ FoundRoot k
+    → s′ ≡ rekid s i k → Partway (RootIs f N) (i + 1) t s′
+unfolding root
+roots-more f N i c k r t s s′ P h ec F er es = partway-more (RootIs f N) t i s P k s′ h (rw (← P .rest i (omega arith), ← ec) is) es
   where
-    at-i : at (s .kids) i ≡ at (t .kids) i
-    at-i = P .rest i (omega arith)
-
-    below : (j : ℕ) → j < i + 1 → (j ≡ i) ⊎ (j ≢ i) → at (set (s .kids) i x) j < N
-    below j l (inl e) = rw (e, getD-set-same (s .kids) i x 0 (omega (arith, P .size))) (F .inside x er)
-    below j l (inr e) = rw (getD-set-other (s .kids) i j x 0 e) (P .low j (omega arith))
-
-    more : (C : ℕ) (R : List ℕ) → Forest f N C R → set (s .kids) i x ≡ partly R (i + 1) (t .kids)
-    more C R G =
-        let q : x ≡ getD R k k = cc (er, F .law C R G) in
-        let z : k ≡ at (t .kids) i = ek ∙ at-i in
-        rw (P .are C R G, q, z, add-one i) (partly-more R i (t .kids) h)
-
--- all of them
-pub partway-canon : (f : List ℕ) (N C i : ℕ) (R : List ℕ) (t s : Term) → Partway f N i t s → i ≡ length (t .kids) → Forest f N C R → s ≡ canon R t
-partway-canon f N C i R t s P e F = term-path (P .op) (P .payload) (P .are C R F ∙ rw e (partly-all R (t .kids)))
+    is : RootIs f N c k
+    is = record { low = F .inside k er; law = λ C R G. cc (er, F .law C R G) }
 
 -- ---- the promise
 
@@ -96,14 +48,14 @@ pub record WithRoots (ws : List ℕ) (h : Head) (x : Node) (r : Rooted) : Type 0
 
 module _ (ws : List ℕ) (h : Head) (x : Node) where
   pub roots-done : (i : ℕ) (y : Node) → y .count ≡ x .count → length (nodeOf x .kids) ≡ x .count → i ≡ x .count
-      → Partway (view (h .n) (h .m) ws .forest) (h .ids) i (nodeOf x) (nodeOf y) → WithRoots ws h x (record { out = RootingDone; node = y })
+      → Partway (RootIs (view (h .n) (h .m) ws .forest) (h .ids)) i (nodeOf x) (nodeOf y) → WithRoots ws h x (record { out = RootingDone; node = y })
   roots-done i y c l e P = record {
     count = c;
     op = P .op;
     payload = P .payload;
     size = P .size;
-    inside = λ _ j lt. P .low j (omega arith);
-    sound = λ g u H. (refl, partway-canon (view (h .n) (h .m) ws .forest) (h .ids) (h .classes) i (g .roots) (nodeOf x) (nodeOf y) P (omega arith) (H .forest));
+    inside = λ _ j lt. P .done j (omega arith) .low;
+    sound = λ g u H. (refl, partway-all _ _ _ _ P (root (g .roots)) (omega arith) (λ c k q. q .law (h .classes) (g .roots) (H .forest)));
   }
 
   pub roots-lost : (k : ℕ) (r : Found) → Finds (view (h .n) (h .m) ws .forest) (h .ids) k r → r ≡ FoundLost → WithRoots ws h x (record { out = RootingBroken; node = x })

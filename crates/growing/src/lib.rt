@@ -14,9 +14,11 @@ ghost use mathlib.Core.Path.{_≡_};
 ghost use Prim.Native.Nat.{ℕ, _+_, _<_, _≤_, _^_};
 ghost use lib.ListN.{length};
 ghost use Rattle.lists.specs.Reads.{at};
+ghost use Rattle.lists.specs.Tests.{Says};
 ghost use Rattle.language.specs.Term.{places};
 ghost use Rattle.language.specs.Struct.{nodeOf};
 ghost use Rattle.layout.specs.Head.{HeadOk};
+ghost use Rattle.growing.specs.Known.{Known};
 ghost use Rattle.growing.specs.Roots.{WithRoots};
 ghost use Rattle.growing.specs.Store.{Stores};
 ghost use Rattle.growing.specs.Enter.{Enters};
@@ -28,6 +30,7 @@ use cells::Change;
 use holds::Stepped;
 use language::Id;
 use language::Node;
+use language::wide;
 use layout::Head;
 
 // Whether every child has a root; broken are words that no calls could have produced.
@@ -42,17 +45,27 @@ pub struct Rooted {
     pub node: Node,
 }
 
-fn wide(x: u32) -> usize
-    ensures { λ r. ⌜ (r ≡ x) × (r < 2 ^ 32) ⌝ }
+// Whether every child is one of the first `ids` ids.
+pub fn known(node: Node, ids: usize) -> bool
+    requires { ⌜ node .count ≤ places ⌝ }
+    ensures { λ r. ⌜ Says r (Known (nodeOf node) ids) ⌝ }
 {
-    x as usize
+    let n = wide(node.count);
+    let mut i: usize = 0;
+    while i < n {
+        if ids <= wide(node.child(i).0) {
+            return false;
+        }
+        i += 1;
+    }
+    true
 }
 
 // The node with each child replaced by its root. No way to a root is shortened: an add that is refused leaves all words as they were.
 pub fn with_roots(ws: &[u32], h: Head, node: Node) -> Rooted
     requires { ⌜ HeadOk (length (now ws)) h ⌝ }
     requires { ⌜ node .count ≤ places ⌝ }
-    requires { ⌜ ((i : ℕ) → i < node .count → at (nodeOf node .kids) i < h .ids) ⌝ }
+    requires { ⌜ Known (nodeOf node) (h .ids) ⌝ }
     ensures { λ r. ⌜ WithRoots (now (ws .entry)) h node r ⌝ }
 {
     let n = wide(node.count);

@@ -4,3 +4,4 @@ pub mod Sorted
 pub mod Hashed
 pub mod Struct
 pub mod Loops
+pub mod Partway

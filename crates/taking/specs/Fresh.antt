@@ -1,19 +1,19 @@
 -- The key that an id has now: its node as it was given, with root children. On words that hold no graph the node may name children that are no ids, which is tested.
 -- Assumes nothing.
-use mathlib.Core.Bool.{Bool, false, true}
+use mathlib.Core.Bool.{Bool, false}
 use mathlib.Core.List.{List}
 use mathlib.Core.Logic.{_⊎_, inl, inr}
 use mathlib.Core.Path.{_∙_, _≡_, ap}
-use Prim.Native.Nat.{_+_, _<_, _≤_, ℕ}
+use Prim.Native.Nat.{_<_, _≤_, ℕ}
 use native.Mathlib.Omega.{arith}
 use lib.ListN.{List·getD-eq-default, length}
-use borrow.Author.Count.{below-more}
 use Rattle.lists.specs.Members.{Mem, mem-at}
 use Rattle.lists.specs.Reads.{at}
-use Rattle.lists.specs.Tests.{Says, lt-or, says-yes}
+use Rattle.lists.specs.Tests.{Says, lt-or}
 use Rattle.language.specs.Struct.{nodeOf}
 use Rattle.language.specs.Term.{places}
 use Rattle.steps.specs.Graph.{Graph, canon, ids, key-of, node}
+use Rattle.growing.specs.Known.{Known}
 use Rattle.growing.specs.Roots.{WithRoots}
 use Rattle.growing.specs.declared.Rooted.{Rooted}
 use Rattle.growing.specs.declared.Rooting.the-variants.{RootingBroken, RootingDone}
@@ -24,25 +24,6 @@ use Rattle.layout.specs.declared.Head.{Head}
 use Rattle.rows.specs.Promise.{Given}
 use Rattle.rows.specs.declared.Fetch.the-variants.{FetchBroken, FetchDone}
 use Rattle.rows.specs.declared.Fetched.{Fetched}
-
--- the first c children are below N
-abbrev pub Known : List ℕ → ℕ → ℕ → Type 0
-Known ks c N = (i : ℕ) → i < c → at ks i < N
-
-pub known-none : (ks : List ℕ) (N : ℕ) → Known ks 0 N
-known-none ks N i h = absurd (omega arith)
-
-pub known-more : (ks : List ℕ) (i N : ℕ) → Known ks i N → at ks i < N → Known ks (i + 1) N
-known-more ks i N K l = below-more (λ (x : ℕ). at ks x < N) i K l
-
-pub known-all : (ks : List ℕ) (i c N : ℕ) → i ≡ c → Known ks i N → Says true (Known ks c N)
-known-all ks i c N e K = says-yes (λ j h. K j (omega arith))
-
-pub known-not : (ks : List ℕ) (i c N : ℕ) → i < c → N ≤ at ks i → Says false (Known ks c N)
-known-not ks i c N h l = record {
-  holds = λ (e : false ≡ true). let z : _≡_ {A = ℕ} 0 1 = cc in absurd (omega arith);
-  fails = λ _ K. let w = K i h in omega arith;
-}
 
 -- ---- the promise
 
@@ -64,14 +45,14 @@ module _ (h : Head) (i : ℕ) (ws : List ℕ) (f : Fetched) (F : Given (view (h 
 
   -- the children of a stored node are ids
   all-known : (g : Graph) (u : ℕ) → HoldsAt h u (view (h .n) (h .m) ws) g → i < ids g → ((c : ℕ) → Mem c (node (g .nodes) i .kids) → c < ids g)
-      → Known (nodeOf (f .node) .kids) (f .node .count) (h .ids)
+      → Known (nodeOf (f .node)) (h .ids)
   all-known g u H l K j lt = rw (fetched g u H l .1, H .ids-are) (go (lt-or j (length (node (g .nodes) i .kids))))
     where
       go : (j < length (node (g .nodes) i .kids)) ⊎ (length (node (g .nodes) i .kids) ≤ j) → at (node (g .nodes) i .kids) j < ids g
       go (inl b) = K (at (node (g .nodes) i .kids) j) (mem-at (node (g .nodes) i .kids) j b)
       go (inr b) = omega (arith, List·getD-eq-default (node (g .nodes) i .kids) 0 b)
 
-  pub fresh-unknown : (b : Bool) → Says b (Known (nodeOf (f .node) .kids) (f .node .count) (h .ids)) → b ≡ false → FreshSays h i ws (record { out = RootingBroken; node = f .node })
+  pub fresh-unknown : (b : Bool) → Says b (Known (nodeOf (f .node)) (h .ids)) → b ≡ false → FreshSays h i ws (record { out = RootingBroken; node = f .node })
   fresh-unknown b S e = record {
     few = F .few;
     sound = λ g u H l K. absurd (S .fails e (all-known g u H l K));

@@ -9,15 +9,13 @@
 //   forest    if an id had the key, the two are united (crate `uniting`, which also works on uses, pending and members)
 //
 // The head in the words stays: a step answers the new numbers. What each function promises: specs/Take.antt, Rekey.antt, Close.antt and Enough.antt.
-ghost use mathlib.Core.Path.{_≡_};
 ghost use Prim.Native.Nat.{_<_, _≤_, _^_};
 ghost use lib.ListN.{length};
 ghost use Rattle.layout.specs.Head.{HeadOk};
-ghost use Rattle.lists.specs.Tests.{Says};
 ghost use Rattle.language.specs.Term.{places};
 ghost use Rattle.language.specs.Struct.{nodeOf};
 ghost use Rattle.taking.specs.Take.{Hands, LastSays, TakeSays};
-ghost use Rattle.taking.specs.Fresh.{Known, FreshSays};
+ghost use Rattle.taking.specs.Fresh.{FreshSays};
 ghost use Rattle.taking.specs.Leave.{OustSays, VacateSays};
 ghost use Rattle.taking.specs.Settle.{SettleSays};
 ghost use Rattle.taking.specs.Rekey.{RekeySays};
@@ -31,6 +29,7 @@ use growing::Rooted;
 use growing::Rooting;
 use language::Id;
 use language::Node;
+use language::wide;
 use layout::Head;
 
 // The id taken and the new numbers of the head; or nothing is pending; or words that no calls could have produced.
@@ -121,28 +120,6 @@ pub fn take(ws: &mut [u32], h: Head) -> Taken
 
 // ---- its key in the table
 
-fn wide(x: u32) -> usize
-    ensures { λ r. ⌜ (r ≡ x) × (r < 2 ^ 32) ⌝ }
-{
-    x as usize
-}
-
-// Whether every child is an id.
-fn known(node: Node, ids: usize) -> bool
-    requires { ⌜ node .count ≤ places ⌝ }
-    ensures { λ r. ⌜ Says r (Known (nodeOf node .kids) (node .count) ids) ⌝ }
-{
-    let n = wide(node.count);
-    let mut i: usize = 0;
-    while i < n {
-        if ids <= wide(node.child(i).0) {
-            return false;
-        }
-        i += 1;
-    }
-    true
-}
-
 // The key of an id: its node as it was given, with root children.
 pub fn fresh_key(ws: &[u32], h: Head, id: usize) -> Rooted
     requires { ⌜ HeadOk (length (now ws)) h ⌝ }
@@ -159,7 +136,7 @@ pub fn fresh_key(ws: &[u32], h: Head, id: usize) -> Rooted
             node: node,
         },
         rows::Fetch::FetchDone => {
-            if known(node, h.ids) {
+            if growing::known(node, h.ids) {
                 return growing::with_roots(ws, h, node);
             }
             Rooted {

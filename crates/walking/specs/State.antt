@@ -6,12 +6,11 @@ use mathlib.Core.Logic.{_≢_, _⊎_, inl, inr}
 use mathlib.Core.Option.{none}
 use mathlib.Core.Path.{_∙_, _≡_, sym}
 use Prim.Native.Nat.{_*_, _+_, _<_, suc, ℕ}
-use native.Mathlib.Decide.{ℕ-discrete}
 use native.Mathlib.Omega.{arith}
 use lib.ListN.{length}
 use Rattle.lists.specs.Reads.{at}
 use Rattle.lists.specs.Stores.{puts, puts-hit, puts-miss}
-use Rattle.lists.specs.Tests.{eq-or, when-no, when-yes}
+use Rattle.lists.specs.Tests.{eq-or}
 use Rattle.language.specs.Term.{Term}
 use Rattle.steps.specs.Classes.{class-nodes, class-roots}
 use Rattle.steps.specs.Graph.{Graph}
@@ -22,7 +21,7 @@ use Rattle.price.specs.Pass.{Table}
 use Rattle.price.specs.Shown.{Fine, spot-here, spot-past}
 use Rattle.price.specs.Size.{AstSize}
 use Rattle.pricing.specs.Entries.{Prices}
-use Rattle.pricing.specs.Laid.{Laid, class-at, place-word}
+use Rattle.pricing.specs.Laid.{Laid, class-at, class-here, class-past, place-word}
 use Rattle.walking.specs.Way.{Way}
 
 -- ---- the stack
@@ -66,14 +65,6 @@ listing-stores n k c = (4 * n + k, c) ∷ (3 * n + c, k + 1) ∷ []
 
 module _ (n : ℕ) (s s′ : List ℕ) (l : Listing) (k c : ℕ) (x : Term) (size : length s ≡ 6 * n) (L : Laid n s l) (new : spot c l ≡ none) (hc : c < n) (hk : k < n) (is : length l ≡ k)
     (e : s′ ≡ puts s (listing-stores n k c)) where
-  class-here : class-at k ((c, x) ∷ l) ≡ c
-  unfolding class-at
-  class-here = when-yes (ℕ-discrete k (length l)) c (class-at k l) (sym is)
-
-  class-past : (p : ℕ) → p ≢ k → class-at p ((c, x) ∷ l) ≡ class-at p l
-  unfolding class-at
-  class-past p ne = when-no (ℕ-discrete p (length l)) c (class-at p l) (λ q. ne (q ∙ is))
-
   place : (d : ℕ) → d < n → (d ≡ c) ⊎ (d ≢ c) → at s′ (3 * n + d) ≡ place-word (spot d ((c, x) ∷ l))
   place d lt (inl q) =
       let a : at s′ (3 * n + c) ≡ k + 1 = rw e (puts-hit (listing-stores n k c) s 1 (omega arith) (omega arith) tt) in
@@ -85,14 +76,14 @@ module _ (n : ℕ) (s s′ : List ℕ) (l : Listing) (k c : ℕ) (x : Term) (siz
   class : (p : ℕ) → p < suc (length l) → (p ≡ k) ⊎ (p ≢ k) → at s′ (4 * n + p) ≡ class-at p ((c, x) ∷ l)
   class p lt (inl q) =
       let a : at s′ (4 * n + k) ≡ c = rw e (puts-hit (listing-stores n k c) s 0 (omega arith) (omega arith) (omega arith)) in
-      rw (q, class-here) a
+      rw (q, class-here k c x l (sym is)) a
   class p lt (inr q) =
       let a : at s′ (4 * n + p) ≡ at s (4 * n + p) = rw e (puts-miss (listing-stores n k c) s (4 * n + p) (omega arith)) in
-      rw (class-past p q) (a ∙ L .classes p (omega arith))
+      rw (class-past p c x l (λ w. q (w ∙ is))) (a ∙ L .classes p (omega arith))
 
   within : (p : ℕ) → p < suc (length l) → (p ≡ k) ⊎ (p ≢ k) → class-at p ((c, x) ∷ l) < n
-  within p lt (inl q) = rw (q, class-here) hc
-  within p lt (inr q) = rw (class-past p q) (L .low p (omega arith))
+  within p lt (inl q) = rw (q, class-here k c x l (sym is)) hc
+  within p lt (inr q) = rw (class-past p c x l (λ w. q (w ∙ is))) (L .low p (omega arith))
 
   -- one class more
   pub laid-more : Laid n s′ ((c, x) ∷ l)

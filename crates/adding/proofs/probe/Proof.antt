@@ -1,4 +1,3 @@
-use native.Mathlib.Omega.{arith}
 use Rattle.language.proofs.Sized.{sized}
 use Rattle.language.specs.Struct.{count-kids}
 use Rattle.adding.specs.Asking.{probe-asked, probe-broken}
@@ -7,11 +6,7 @@ use Rattle.adding.proofs.probe.Statement.{statement}
 use Rattle.adding.proofs.probe.Tie as tie
 
 with-roots-requires : tie.Need-with-roots-requires
-with-roots-requires c κs =
-    let s = c .before in
-    let x = s .args .node in
-    let f = count-kids x (sized x (s .good .1 .1 .0)) (s .pre .1 .0) in
-    (s .pre .0, (s .pre .1 .0, λ i h. s .pre .1 .1 i (omega arith)))
+with-roots-requires c κs = let s = c .before in (s .pre .0, s .pre .1)
 
 returns : tie.Need-returns
 returns c = probe-broken _ _ _ _ (c .before .before .before .with-roots .ensures) (c .enum-told2 .given .1)

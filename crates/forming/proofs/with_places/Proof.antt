@@ -3,20 +3,21 @@ use Prim.Native.Nat.{_-_, _≤_}
 use native.Mathlib.Omega.{arith}
 use borrow.Author.Needs.{needs}
 use Rattle.language.proofs.Sized.{sized}
+use Rattle.language.specs.Partway.{Partway, partway-none}
 use Rattle.language.specs.Struct.{count-kids, nodeOf}
 use Rattle.layout.specs.View.{view}
-use Rattle.forming.specs.Placed.{Partway, partway-none, partway-more, places-done, places-none, places-stray}
+use Rattle.forming.specs.Placed.{PlaceIs, places-done, places-more, places-none, places-stray}
 use Rattle.forming.proofs.with_places.Statement.{statement}
 use Rattle.forming.proofs.with_places.Tie as tie
 
 abbrev Inv-loop : tie.InvT-loop
-Inv-loop ws h n k y₀ i₀ y i = (i ≤ k) × (y .count ≡ y₀ .count) × Partway (h .n) (view (h .n) (h .m) ws .scratch) i (nodeOf y₀) (nodeOf y)
+Inv-loop ws h n k y₀ i₀ y i = (i ≤ k) × (y .count ≡ y₀ .count) × Partway (PlaceIs (h .n) (view (h .n) (h .m) ws .scratch)) i (nodeOf y₀) (nodeOf y)
 
 abbrev μ-loop : tie.MeasureT-loop
 μ-loop ws h n k y₀ i₀ y i = k - i
 
 loop-holds : tie.Need-loop-holds Inv-loop μ-loop
-loop-holds c = (omega arith, refl, partway-none _ _ _)
+loop-holds c = (omega arith, refl, partway-none _ _)
 
 returns : tie.Need-returns Inv-loop μ-loop
 returns c =
@@ -37,7 +38,7 @@ loop-again c =
     let x = (c .before .before .before .before .before .before .before .before .before .before .args .node) in
     let f = count-kids x (sized x (c .before .before .before .before .before .before .before .before .before .before .good .1 .1 .0)) (c .before .before .before .before .before .before .before .before .before .before .pre .1) in
     let w = (c .before .before .before .before .before .before .before .before .wide .ensures .0) in
-    (omega arith, omega (arith, (c .with-child .ensures .0)), partway-more _ _ _ (c .before .before .before .before .before .before .before .loop .i) _ _ (c .before .before .before .before .before .before .before .loop .inv .2) (omega (arith, (c .before .before .before .before .before .before .loop-test .taken))) ((c .before .before .before .before .wide2 .ensures .0) ∙ (c .before .before .before .before .before .child .ensures)) _ (c .before .before .scratch .ensures) _ (omega (arith, (c .before .before .before .if1 .left))) (c .before .if2 .left) (c .with-child .ensures .1))
+    (omega arith, omega (arith, (c .with-child .ensures .0)), places-more _ _ _ (c .before .before .before .before .before .before .before .loop .i) _ _ (c .before .before .before .before .before .before .before .loop .inv .2) (omega (arith, (c .before .before .before .before .before .before .loop-test .taken))) ((c .before .before .before .before .wide2 .ensures .0) ∙ (c .before .before .before .before .before .child .ensures)) _ (c .before .before .scratch .ensures) _ (omega (arith, (c .before .before .before .if1 .left))) (c .before .if2 .left) (c .with-child .ensures .1))
 
 returns-3 : tie.Need-returns-3 Inv-loop μ-loop
 returns-3 c =

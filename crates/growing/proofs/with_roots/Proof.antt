@@ -3,15 +3,16 @@ use Prim.Native.Nat.{_-_, _≤_}
 use native.Mathlib.Omega.{arith}
 use borrow.Author.Needs.{needs}
 use Rattle.language.proofs.Sized.{sized}
+use Rattle.language.specs.Partway.{Partway, partway-none}
 use Rattle.language.specs.Struct.{count-kids, nodeOf}
 use Rattle.layout.specs.Head.{ok-fits}
 use Rattle.layout.specs.View.{view}
-use Rattle.growing.specs.Roots.{Partway, partway-none, partway-more, roots-done, roots-lost}
+use Rattle.growing.specs.Roots.{RootIs, roots-done, roots-lost, roots-more}
 use Rattle.growing.proofs.with_roots.Statement.{statement}
 use Rattle.growing.proofs.with_roots.Tie as tie
 
 abbrev Inv-loop : tie.InvT-loop
-Inv-loop ws h node n y₀ i₀ y i = (i ≤ n) × (y .count ≡ node .count) × Partway (view (h .n) (h .m) ws .forest) (h .ids) i (nodeOf node) (nodeOf y)
+Inv-loop ws h node n y₀ i₀ y i = (i ≤ n) × (y .count ≡ node .count) × Partway (RootIs (view (h .n) (h .m) ws .forest) (h .ids)) i (nodeOf node) (nodeOf y)
 
 abbrev μ-loop : tie.MeasureT-loop
 μ-loop ws h node n y₀ i₀ y i = n - i
@@ -20,7 +21,7 @@ wide-requires : tie.Need-wide-requires Inv-loop μ-loop
 wide-requires c κs = search needs
 
 loop-holds : tie.Need-loop-holds Inv-loop μ-loop
-loop-holds c = (omega arith, refl, partway-none _ _ _)
+loop-holds c = (omega arith, refl, partway-none _ _)
 
 child-requires : tie.Need-child-requires Inv-loop μ-loop
 child-requires c κs = search needs
@@ -32,6 +33,8 @@ find-requires : tie.Need-find-requires Inv-loop μ-loop
 find-requires c κs =
     let s = c .before .before .before .before .before .before in
     let l = c .before .before .before .loop in
+    let x = s .args .node in
+    let f = count-kids x (sized x (s .good .1 .1 .0)) (s .pre .1 .0) in
     let b = s .pre .1 .1 (l .i) (omega arith) in
     let e = l .inv .2 .rest (l .i) (omega arith) in
     (ok-fits (s .pre .0), (omega (arith, c .wide2 .ensures .0, c .before .child .ensures), omega arith))
@@ -67,7 +70,7 @@ loop-again c =
     let f = count-kids x (sized x (s .good .1 .1 .0)) (s .pre .1 .0) in (
       omega arith,
       omega (arith, c .with-child .ensures .0),
-      partway-more _ _ _ _ _ _ _ _ _ (l .loop .inv .2) (omega arith) (c .before .before .before .before .before .wide2 .ensures .0 ∙ c .before .before .before .before .before .before .child .ensures)
+      roots-more _ _ _ _ _ _ _ _ _ (l .loop .inv .2) (omega arith) (c .before .before .before .before .before .wide2 .ensures .0 ∙ c .before .before .before .before .before .before .child .ensures)
           (c .before .before .before .before .find .ensures) (c .before .before .x .given .1) (c .with-child .ensures .1),
     )
 

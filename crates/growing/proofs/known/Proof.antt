@@ -1,14 +1,15 @@
 use mathlib.Core.Path.{_∙_}
 use Prim.Native.Nat.{ℕ, _-_, _<_, _≤_}
 use native.Mathlib.Omega.{arith}
+use borrow.Author.Count.{below-more}
 use borrow.Author.Needs.{needs}
 use Rattle.lists.specs.Reads.{at}
 use Rattle.lists.specs.Tests.{says-no, says-yes}
 use Rattle.language.proofs.Sized.{sized}
 use Rattle.language.specs.Struct.{count-kids, nodeOf}
-use Rattle.adding.specs.Asking.{known-less, known-more}
-use Rattle.adding.proofs.known.Statement.{statement}
-use Rattle.adding.proofs.known.Tie as tie
+use Rattle.growing.specs.Known.{known-less}
+use Rattle.growing.proofs.known.Statement.{statement}
+use Rattle.growing.proofs.known.Tie as tie
 
 abbrev Inv-loop : tie.InvT-loop
 Inv-loop node ids n i₀ i = (i ≤ n) × ((j : ℕ) → j < i → at (nodeOf node .kids) j < ids)
@@ -35,7 +36,7 @@ loop-again c =
     let l = c .before .before .before .before in
     let t = c .before .before .before .loop-test .taken in
     let e = c .before .wide2 .ensures .0 ∙ c .before .before .child .ensures in
-    (omega arith, known-more (nodeOf (l .before .before .args .node)) _ _ (l .loop .inv .1) (omega (arith, e)))
+    (omega arith, below-more (λ (j : ℕ). at (nodeOf (l .before .before .args .node) .kids) j < l .before .before .args .ids) _ (l .loop .inv .1) (omega (arith, e)))
 
 returns-2 : tie.Need-returns-2 Inv-loop μ-loop
 returns-2 c =
