@@ -1,6 +1,7 @@
 pub mod Pool
 pub mod Writes
 pub mod Pigeon
+pub mod Places
 pub mod Rows
 pub mod Push
 pub mod Join

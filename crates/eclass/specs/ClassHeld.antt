@@ -12,7 +12,8 @@ use Rattle.lists.specs.Keeps.{any, filter-from, length-upto, mem-filter, mem-up
 use Rattle.lists.specs.Members.{Mem, map-same, mem-at, mem-length}
 use Rattle.lists.specs.Reads.{at}
 use Rattle.lists.specs.Sorted.{filter-ascending, one-list, upto-ascending}
-use Rattle.lists.specs.Sums.{sum-of}
+use Rattle.lists.specs.Sums.{parted, sum-filter, sum-le, sum-of, sum-same}
+use Rattle.language.specs.Sorted.{sorted-le}
 use Rattle.language.specs.Term.{Term}
 use Rattle.steps.specs.Classes.{class-nodes, class-roots, classes-for-op, members, total-number-of-nodes}
 use Rattle.steps.specs.Graph.{Graph, ids, key-of, root}
@@ -24,7 +25,7 @@ use Rattle.layout.specs.View.{View}
 use Rattle.layout.specs.declared.Head.{Head}
 use Rattle.rows.specs.Determined.{read-key, sane}
 use Rattle.rows.specs.Read.{Sane, key-read}
-use Rattle.eclass.specs.ClassCount.{parted, sorted-le, sum-filter, sum-le, sum-same, total-of}
+use Rattle.eclass.specs.ClassCount.{total-of}
 use Rattle.eclass.specs.ClassWalk.{Fine, class-ids, class-read, ids-are, len-of}
 
 lt-chain : (x y z : ℕ) → x < y → y < z → x < z

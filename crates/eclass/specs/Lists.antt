@@ -12,6 +12,7 @@ use lib.ListN.{length, length-append, set}
 use lib.Seq.{length-sets, sets}
 use Rattle.lists.specs.Members.{Mem}
 use Rattle.lists.specs.Reads.{at}
+use Rattle.lists.specs.Sets.{sets-front}
 use Rattle.lists.specs.Tests.{when, when-no, when-yes}
 use Rattle.language.specs.Struct.{nodeOf}
 use Rattle.language.specs.Term.{places, spell, words}
@@ -28,7 +29,7 @@ use Rattle.spelling.specs.Listed.{length-spell}
 use Rattle.spelling.specs.Puts.{Puts}
 use Rattle.eclass.specs.ClassHeld.{nodes-counted, nodes-read, roots-listed}
 use Rattle.eclass.specs.ClassWalk.{Walk, back, back-step, class-ids, len-of, walk-end, walk-more, walk-start}
-use Rattle.eclass.specs.Pieces.{Wrote, flat-same, pieces, pieces-flat, sets-front, wrote, wrote-none}
+use Rattle.eclass.specs.Pieces.{Wrote, flat-same, pieces, pieces-flat, wrote, wrote-none}
 
 -- ---- the model
 

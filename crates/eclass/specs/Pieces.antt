@@ -5,14 +5,14 @@ use mathlib.Core.Logic.{ite}
 use mathlib.Core.Path.{_∙_, _≡_, ap, refl, sym}
 use Prim.Native.Nat.{_+_, _<_, _≤_, suc, zero, ℕ}
 use native.Mathlib.Decide.{decLe}
-use native.Mathlib.Nat.{add-zero}
 use native.Mathlib.Numerals.{add-one}
 use native.Mathlib.Omega.{arith}
-use lib.ListN.{drop, length, length-append, set, take, take-append-drop}
-use lib.Seq.{drop-at, length-sets, length-take-le, sets, sets-eq, take-append-le}
+use lib.ListN.{drop, length, length-append, take}
+use lib.Seq.{length-sets, sets}
 use Rattle.lists.specs.Keeps.{filter-append, upto}
 use Rattle.lists.specs.Members.{Mem, here, there}
 use Rattle.lists.specs.Sets.{sets-after, sets-stand}
+use Rattle.lists.specs.Stores.{sets-append}
 use Rattle.lists.specs.Tests.{when}
 
 -- ---- the pieces of the first k ids
@@ -54,12 +54,6 @@ module _ (f : ℕ → List ℕ) where
 
 -- ---- words written
 
-sets-append : (xs ys l : List ℕ) (p : ℕ) → sets l p (xs ++ ys) ≡ sets (sets l p xs) (p + length xs) ys
-sets-append [] ys l p = rw add-zero refl
-sets-append (x ∷ xs) ys l p =
-    let e : p + suc (length xs) ≡ suc p + length xs = omega arith in
-    rw e (sets-append xs ys (set l p x) (suc p))
-
 -- out′ is out with the words xs from p on, and r is the place behind them
 pub record Wrote (out : List ℕ) (p : ℕ) (xs : List ℕ) (r : ℕ) (out′ : List ℕ) : Type 0 where
   pub exact : out′ ≡ sets out p xs
@@ -98,25 +92,6 @@ module _ (f : ℕ → List ℕ) (out : List ℕ) where
 
     pub pieces-next : (r : ℕ) (out′ : List ℕ) → Wrote mid p (f i) r out′ → Wrote out 0 (pieces f (i + 1)) r out′
     pieces-next r out′ b = rw (pieces-more f i) (wrote-join a b)
-
--- ---- words written in front of others
-
-pub sets-front : (us vs l : List ℕ) (p q : ℕ) → q ≡ p + length us → q + length vs ≤ length l → sets (sets l q vs) p us ≡ sets l p (us ++ vs)
-sets-front us vs l p q e h =
-    let a : sets l q vs ≡ take q l ++ (vs ++ drop (q + length vs) l) = sets-eq vs l q h ∙ append-assoc (take q l) vs (drop (q + length vs) l) in
-    let n : length (take q l) ≡ q = length-take-le q l (omega arith) in
-    let s : length (sets l q vs) ≡ length l = length-sets l q vs in
-    let b : take p (sets l q vs) ≡ take p l = rw a (front (omega arith) (vs ++ drop (q + length vs) l) n) in
-    let c : drop q (sets l q vs) ≡ vs ++ drop (q + length vs) l = rw a (drop-at (take q l) (vs ++ drop (q + length vs) l) q n) in
-    let w : p + length (us ++ vs) ≡ q + length vs = omega (arith, length-append us vs) in
-    sets-eq us (sets l q vs) p (omega arith)
-    ∙ rw (b, ← e, c, append-assoc (take p l) us (vs ++ drop (q + length vs) l)) (sym (sets-eq (us ++ vs) l p (omega arith) ∙ rw (w, append-assoc (take p l) (us ++ vs) (drop (q + length vs) l), append-assoc us vs (drop (q + length vs) l)) refl))
-  where
-    front : p ≤ q → (t : List ℕ) → length (take q l) ≡ q → take p (take q l ++ t) ≡ take p l
-    front le t n =
-        take-append-le p (take q l) t (omega arith)
-        ∙ sym (take-append-le p (take q l) (drop q l) (omega arith))
-        ∙ ap (λ (z : List ℕ). take p z) (take-append-drop q l)
 
 -- ---- pieces of what passes a test
 

@@ -4,6 +4,9 @@
 use mathlib.Core.Path.{_≡_, refl, _∙_}
 use mathlib.Core.Logic.{_⊎_, inl, inr}
 use mathlib.Core.List.{List, [], _∷_}
+use Prim.Native.Nat.{_≤_, suc}
+use native.Mathlib.Omega.{arith}
+use lib.ListN.{length}
 use Rattle.lists.specs.Members.{Mem, here, there, mem-cases, mem-nil}
 use Rattle.lists.specs.Sorted.{Ascending, none-left, first}
 use Rattle.language.specs.declared.Ordering.{Ordering}
@@ -108,3 +111,20 @@ pub sorted-ascending : (xs : List Term) → Ascending Before (sorted xs)
 unfolding sorted
 sorted-ascending [] = none-left
 sorted-ascending (x ∷ xs) = insert-ascending x (sorted-ascending xs)
+
+-- ---- no longer than before
+
+insert-le : (x : Term) (l : List Term) → length (insert x l) ≤ suc (length l)
+unfolding insert
+insert-le x [] = omega arith
+insert-le x (y ∷ ys) = go (order x y) (insert-le x ys)
+  where
+    go : (o : Ordering) → length (insert x ys) ≤ suc (length ys) → length (put-in o x y ys (insert x ys)) ≤ suc (suc (length ys))
+    go Less ih = omega arith
+    go Equal ih = omega arith
+    go Greater ih = omega arith
+
+pub sorted-le : (l : List Term) → length (sorted l) ≤ length l
+unfolding sorted
+sorted-le [] = omega arith
+sorted-le (x ∷ l) = omega (arith, insert-le x (sorted l), sorted-le l)

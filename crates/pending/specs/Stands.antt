@@ -3,7 +3,8 @@
 -- Assumes nothing.
 use mathlib.Core.Path.{_≡_, refl, ap}
 use mathlib.Core.List.{List, [], _∷_, _++_, reverse}
-use Prim.Native.Nat.{ℕ, zero, suc, _+_, _<_, _≤_}
+use Prim.Native.Nat.{ℕ, zero, suc, _*_, _+_, _<_, _≤_}
+use native.Mathlib.Nat.{suc-mul}
 use native.Mathlib.Omega.{arith}
 use lib.ListN.{length, length-append, length-reverse}
 use Rattle.lists.specs.Sums.{sum-of}
@@ -41,6 +42,14 @@ stands-length size none = refl
 stands-length size (one s) = omega (arith, stands-length size s)
 stands-length size (many {c = c} {k = k} {xs = xs} {is = is} h s) =
     omega (arith, length-append (reverse xs) is, length-reverse xs, size c (suc k) xs h, stands-length size s)
+
+-- a stretch of at most b ids each
+pub stands-le : {S : ℕ → ℕ → List ℕ → Type 0} (b : ℕ) → ((c k : ℕ) (xs : List ℕ) → S c k xs → length xs ≤ b) → {es : Entries} {is : List ℕ} → Stands S es is
+    → length is ≤ length es * (b + 1)
+stands-le b low none = omega arith
+stands-le b low (one {es = es} s) = omega (arith, stands-le b low s, suc-mul (length es) (b + 1))
+stands-le b low (many {c = c} {k = k} {xs = xs} {es = es} {is = is} h s) =
+    omega (arith, stands-le b low s, suc-mul (length es) (b + 1), length-append (reverse xs) is, length-reverse xs, low c (suc k) xs h)
 
 -- an entry stands for one id at least
 pub total-le : (es : Entries) → length es ≤ total es

@@ -20,7 +20,7 @@ use Rattle.layout.specs.Head.{HeadOk}
 use Rattle.layout.specs.View.{View, view}
 use Rattle.layout.specs.declared.Head.{Head}
 use Rattle.taking.specs.Drain.{DrainSays, Emptied, Startable}
-use Rattle.taking.specs.Places.{parents-pending, parents-size}
+use Rattle.taking.specs.Sizes.{parents-pending, parents-size}
 use Rattle.taking.specs.declared.Drained.{Drained}
 use Rattle.taking.specs.declared.Drained.the-variants.{DrainedTo}
 use Rattle.uniting.specs.Near.{NearIds}

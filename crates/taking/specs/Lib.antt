@@ -6,5 +6,5 @@ pub mod Rekey
 pub mod Close
 pub mod Entry
 pub mod Drain
-pub mod Places
+pub mod Sizes
 pub mod Enough
