@@ -10,7 +10,7 @@ use lib.ListN.{length}
 use Rattle.holds.specs.HoldsLaws.{root-again}
 use Rattle.lists.specs.Options.{none≢some}
 use Rattle.lists.specs.Reads.{at}
-use Rattle.lists.specs.Tests.{when, when-no, when-yes}
+use Rattle.lists.specs.Tests.{when, when-no, when-yes, zero-one}
 use Rattle.language.specs.Struct.{nodeOf}
 use Rattle.language.specs.Term.{Term}
 use Rattle.language.specs.declared.Id.{Id}
@@ -50,13 +50,13 @@ module _ (h : Head) (x : Node) (ws : List ℕ) (w : Rooted) (W : WithRoots ws h 
   }
     where
       broken-none : _≡_ {A = Seen} SeenBroken SeenNone → ⊥
-      broken-none q = let z : _≡_ {A = ℕ} 0 1 = cc in omega arith
+      broken-none q = zero-one cc
 
       broken-at : (i : Id) → SeenBroken ≡ SeenAt i → ⊥
-      broken-at i q = let z : _≡_ {A = ℕ} 0 1 = cc in omega arith
+      broken-at i q = zero-one cc
 
       lost : w .out ≡ RootingDone → ⊥
-      lost q = let z : _≡_ {A = ℕ} 0 1 = cc in omega arith
+      lost q = zero-one cc
 
   module _ (e : w .out ≡ RootingDone) (l : length (nodeOf x .kids) ≡ x .count) (a : Asked)
       (A : Answers (view (h .n) (h .m) ws .table) (view (h .n) (h .m) ws .rows) (h .n) (h .m) (nodeOf (w .node)) a) where
@@ -72,9 +72,9 @@ module _ (h : Head) (x : Node) (ws : List ℕ) (w : Rooted) (W : WithRoots ws h 
       where
         go : (d : Dec (y .0 < N)) → when d (SeenAt y) SeenBroken ≡ SeenAt i → (AskedAt y ≡ AskedAt i) × (i .0 < N)
         go (yes p) q = let z : y ≡ i = cc in (ap AskedAt z, rw (← z) p)
-        go (no p) q = let z : _≡_ {A = ℕ} 0 1 = cc in absurd (omega arith)
-    seen-at N AskedNone i q = let z : _≡_ {A = ℕ} 0 1 = cc in absurd (omega arith)
-    seen-at N AskedBroken i q = let z : _≡_ {A = ℕ} 0 1 = cc in absurd (omega arith)
+        go (no p) q = zero-one cc
+    seen-at N AskedNone i q = zero-one cc
+    seen-at N AskedBroken i q = zero-one cc
 
     hit : (g : Graph) (N i : ℕ) (b : Asked) (k : Term) → N ≡ ids g → Asks k (g .memo) (ids g) b → kept k (g .memo) ≡ some i → seen-as N b ≡ SeenAt (record { 0 = i })
     hit g N i (AskedAt y) k n S q =

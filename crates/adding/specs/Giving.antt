@@ -7,6 +7,7 @@ use mathlib.Core.Path.{_∙_, _≡_, ap, refl}
 use Prim.Native.Nat.{ℕ}
 use native.Mathlib.Omega.{arith}
 use lib.ListN.{length}
+use Rattle.lists.specs.Tests.{zero-one}
 use Rattle.language.specs.Struct.{nodeOf}
 use Rattle.language.specs.declared.Id.{Id}
 use Rattle.language.specs.declared.Node.{Node}
@@ -26,15 +27,15 @@ use Rattle.layout.specs.declared.Head.{Head}
 module _ (h : Head) (x : Node) (ws : List ℕ) (p : Probed) (P : Probes h x ws p) (l : length (nodeOf x .kids) ≡ x .count) where
   -- no graph has these words
   no-graph : (g : Graph) (o : Option ℕ) → kept-for g (nodeOf x) ≡ o → p .out ≡ SeenBroken → HoldsAt h (h .places) (view (h .n) (h .m) ws) g → ⊥
-  no-graph g (some i) q e H = let f = P .found g (h .places) i H q in let z : _≡_ {A = ℕ} 0 1 = cc in omega arith
-  no-graph g none q e H = let f = P .absent g (h .places) H q .0 in let z : _≡_ {A = ℕ} 0 1 = cc in omega arith
+  no-graph g (some i) q e H = let f = P .found g (h .places) i H q in zero-one cc
+  no-graph g none q e H = let f = P .absent g (h .places) H q .0 in zero-one cc
 
   pub give-lost : p .out ≡ SeenBroken → Gives h (nodeOf x) ws GaveBroken ws
   give-lost e = record {
     inside = inside-same (h .n) (h .m) ws;
-    old = λ i q. let z : _≡_ {A = ℕ} 0 1 = cc in absurd (omega arith);
-    full = λ q. let z : _≡_ {A = ℕ} 0 1 = cc in absurd (omega arith);
-    new = λ k q. let z : _≡_ {A = ℕ} 0 1 = cc in absurd (omega arith);
+    old = λ i q. zero-one cc;
+    full = λ q. zero-one cc;
+    new = λ k q. zero-one cc;
     found = λ g i H q. absurd (no-graph g (some i) q e H);
     shut = λ g H q f. absurd (no-graph g none q e H);
     grown = λ g H q f. absurd (no-graph g none q e H);
@@ -44,26 +45,26 @@ module _ (h : Head) (x : Node) (ws : List ℕ) (p : Probed) (P : Probes h x ws p
   give-old y e = record {
     inside = inside-same (h .n) (h .m) ws;
     old = λ i q. let z : y ≡ i = cc in (P .inside i (e ∙ ap SeenAt z), refl);
-    full = λ q. let z : _≡_ {A = ℕ} 0 1 = cc in absurd (omega arith);
-    new = λ k q. let z : _≡_ {A = ℕ} 0 1 = cc in absurd (omega arith);
+    full = λ q. zero-one cc;
+    new = λ k q. zero-one cc;
     found = λ g i H q. let z : y ≡ record { 0 = i } = cc (e, P .found g (h .places) i H q) in ap GaveOld z;
     shut = λ g H q f. absurd (apart (P .absent g (h .places) H q .0));
     grown = λ g H q f. absurd (apart (P .absent g (h .places) H q .0));
   }
     where
       apart : p .out ≡ SeenNone → ⊥
-      apart q = let z : _≡_ {A = ℕ} 0 1 = cc in omega arith
+      apart q = zero-one cc
 
   module _ (e : p .out ≡ SeenNone) where
     not-found : (g : Graph) (i : ℕ) → HoldsAt h (h .places) (view (h .n) (h .m) ws) g → kept-for g (nodeOf x) ≡ some i → ⊥
-    not-found g i H q = let f = P .found g (h .places) i H q in let z : _≡_ {A = ℕ} 0 1 = cc in omega arith
+    not-found g i H q = let f = P .found g (h .places) i H q in zero-one cc
 
     pub give-full : Full h (nodeOf x) → Gives h (nodeOf x) ws GaveFull ws
     give-full f = record {
       inside = inside-same (h .n) (h .m) ws;
-      old = λ i q. let z : _≡_ {A = ℕ} 0 1 = cc in absurd (omega arith);
+      old = λ i q. zero-one cc;
       full = λ q. (f, refl);
-      new = λ k q. let z : _≡_ {A = ℕ} 0 1 = cc in absurd (omega arith);
+      new = λ k q. zero-one cc;
       found = λ g i H q. absurd (not-found g i H q);
       shut = λ g H q _. refl;
       grown = λ g H q r. absurd (full-room f r);
@@ -84,22 +85,22 @@ module _ (h : Head) (x : Node) (ws : List ℕ) (p : Probed) (P : Probes h x ws p
       pub give-broken : s ≡ SteppedBroken → Gives h (nodeOf x) ws GaveBroken ws′
       give-broken es = record {
         inside = G .inside;
-        old = λ i q. let z : _≡_ {A = ℕ} 0 1 = cc in absurd (omega arith);
-        full = λ q. let z : _≡_ {A = ℕ} 0 1 = cc in absurd (omega arith);
-        new = λ k q. let z : _≡_ {A = ℕ} 0 1 = cc in absurd (omega arith);
+        old = λ i q. zero-one cc;
+        full = λ q. zero-one cc;
+        new = λ k q. zero-one cc;
         found = λ g i H q. absurd (not-found g i H q);
         shut = λ g H q f. absurd (full-not f);
         grown = λ g H q _. absurd (lost g H q);
       }
         where
           lost : (g : Graph) → HoldsAt h (h .places) (view (h .n) (h .m) ws) g → kept-for g (nodeOf x) ≡ none → ⊥
-          lost g H q = let w = G .sound g (addable g H q) in let a = w .1 in let z : _≡_ {A = ℕ} 0 1 = cc in omega arith
+          lost g H q = let w = G .sound g (addable g H q) in let a = w .1 in zero-one cc
 
       pub give-new : (k : Head) → s ≡ SteppedTo k → Gives h (nodeOf x) ws (GaveNew k) ws′
       give-new k es = record {
         inside = G .inside;
-        old = λ i q. let z : _≡_ {A = ℕ} 0 1 = cc in absurd (omega arith);
-        full = λ q. let z : _≡_ {A = ℕ} 0 1 = cc in absurd (omega arith);
+        old = λ i q. zero-one cc;
+        full = λ q. zero-one cc;
         new = λ t q. let z : k ≡ t = cc in G .range t (es ∙ ap SteppedTo z);
         found = λ g i H q. absurd (not-found g i H q);
         shut = λ g H q f. absurd (full-not f);

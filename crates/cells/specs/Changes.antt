@@ -8,6 +8,7 @@ use native.Mathlib.Omega.{arith}
 use lib.ListN.{length}
 use Rattle.lists.specs.Reads.{at}
 use Rattle.lists.specs.Stores.{puts, puts-length}
+use Rattle.lists.specs.Tests.{zero-one}
 use Rattle.cells.specs.Join.{first-low, join-fits, join-none, pool-join}
 use Rattle.cells.specs.Pool.{Free, Pool, joinL, pushL, row}
 use Rattle.cells.specs.Push.{pool-push, push-fits}
@@ -105,4 +106,4 @@ module _ (ws : List ℕ) (n m a c : ℕ) (rm : Room ws n m) (ha : a < n) (hc : c
 -- ---- done and broken are two answers
 
 pub change-apart : (r : Change) → r ≡ ChangeBroken → r ≡ ChangeDone → ⊥
-change-apart r e f = let z : _≡_ {A = ℕ} 0 1 = cc in omega arith
+change-apart r e f = zero-one cc

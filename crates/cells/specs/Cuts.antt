@@ -8,6 +8,7 @@ use native.Mathlib.Omega.{arith}
 use lib.ListN.{length}
 use Rattle.lists.specs.Reads.{at}
 use Rattle.lists.specs.Stores.{puts, puts-length}
+use Rattle.lists.specs.Tests.{zero-one}
 use Rattle.cells.specs.Cursor.{Cursor, Passed, cursor-low, length-low, passed-start, passed-step}
 use Rattle.cells.specs.Pool.{Pool, removeL, row}
 use Rattle.cells.specs.Remove.{Named, named-cursor, named-start, named-step, pool-remove}
@@ -40,8 +41,8 @@ pub record Seen (ws : List ℕ) (n m a c : ℕ) (r : Spot) : Type 0 where
 
 seen-broken : (ws : List ℕ) (n m a c : ℕ) → ((L : List (List ℕ)) → Pool ws n m L → ⊥) → Seen ws n m a c SpotBroken
 seen-broken ws n m a c bad = record {
-  found = λ q s t (e : SpotBroken ≡ SpotAt q s t). let z : _≡_ {A = ℕ} 0 1 = cc in absurd (omega arith);
-  absent = λ (e : SpotBroken ≡ SpotAbsent). let z : _≡_ {A = ℕ} 0 1 = cc in absurd (omega arith);
+  found = λ q s t (e : SpotBroken ≡ SpotAt q s t). zero-one cc;
+  absent = λ (e : SpotBroken ≡ SpotAbsent). zero-one cc;
   broken = λ _. bad;
 }
 
@@ -62,9 +63,9 @@ module _ (ws : List ℕ) (n m a c : ℕ) (ha : a < n) where
   module _ (left spot after : ℕ) (go : Going ws n m a c left spot after) where
     pub seen-absent : left ≤ 0 → Seen ws n m a c SpotAbsent
     seen-absent h = record {
-      found = λ q s t (e : SpotAbsent ≡ SpotAt q s t). let z : _≡_ {A = ℕ} 0 1 = cc in absurd (omega arith);
+      found = λ q s t (e : SpotAbsent ≡ SpotAt q s t). zero-one cc;
       absent = λ _ L p i l. go .passed .none L p i (omega arith) l;
-      broken = λ (e : SpotAbsent ≡ SpotBroken). let z : _≡_ {A = ℕ} 0 1 = cc in absurd (omega arith);
+      broken = λ (e : SpotAbsent ≡ SpotBroken). zero-one cc;
     }
 
     -- w is the cell that the search has come to
@@ -83,8 +84,8 @@ module _ (ws : List ℕ) (n m a c : ℕ) (ha : a < n) where
             let x : after ≡ t = cc in
             let y : left ≡ suc q = omega arith in
             record { going = rw (← y, ← v, ← x) go; cell = rw (← v) (sym same ∙ e) };
-        absent = λ (f : SpotAt (left - 1) spot after ≡ SpotAbsent). let z : _≡_ {A = ℕ} 0 1 = cc in absurd (omega arith);
-        broken = λ (f : SpotAt (left - 1) spot after ≡ SpotBroken). let z : _≡_ {A = ℕ} 0 1 = cc in absurd (omega arith);
+        absent = λ (f : SpotAt (left - 1) spot after ≡ SpotAbsent). zero-one cc;
+        broken = λ (f : SpotAt (left - 1) spot after ≡ SpotBroken). zero-one cc;
       }
 
       pub going-step : w < m → w ≢ c → Going ws n m a c (left - 1) (n + n + n + w) w

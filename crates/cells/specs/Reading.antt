@@ -6,6 +6,7 @@ use Prim.Native.Nat.{_+_, _<_, _^_, _≤_, suc, ℕ}
 use native.Mathlib.Omega.{arith}
 use lib.ListN.{length}
 use Rattle.lists.specs.Reads.{at}
+use Rattle.lists.specs.Tests.{zero-one}
 use Rattle.cells.specs.Pool.{Pool, row}
 use Rattle.cells.specs.Rows.{fits}
 use Rattle.cells.specs.Stretch.{Part, part-link, part-list, part-low}
@@ -33,7 +34,7 @@ module _ (ws : List ℕ) (n m c w : ℕ) (e : w ≡ at ws (n + n + n + c)) where
     exact = λ _. ap CellAt e;
     stray = λ l. absurd (omega arith);
     inside = λ x (f : CellAt w ≡ CellAt x). let z : w ≡ x = cc in (rw (← z) h, sym z ∙ e);
-    broken = λ (f : CellAt w ≡ CellBroken). let z : _≡_ {A = ℕ} 0 1 = cc in absurd (omega arith);
+    broken = λ (f : CellAt w ≡ CellBroken). zero-one cc;
     law = λ L xs p q i h f. ap CellAt (e ∙ ap (λ (z : ℕ). at ws (n + n + n + z)) (sym f) ∙ part-link ws n m L xs p q i h);
   }
 
@@ -41,7 +42,7 @@ module _ (ws : List ℕ) (n m c w : ℕ) (e : w ≡ at ws (n + n + n + c)) where
   stepped-off h = record {
     exact = λ l. absurd (omega arith);
     stray = λ _. refl;
-    inside = λ x (f : CellBroken ≡ CellAt x). let z : _≡_ {A = ℕ} 0 1 = cc in absurd (omega arith);
+    inside = λ x (f : CellBroken ≡ CellAt x). zero-one cc;
     broken = λ _. rw (← e) h;
     law = λ L xs p q i l f. let g = e ∙ ap (λ (z : ℕ). at ws (n + n + n + z)) (sym f) ∙ part-link ws n m L xs p q i l in
         absurd (omega (arith, g, part-low ws n m L xs p q i (omega arith)));
@@ -59,7 +60,7 @@ pub record Reached (ws : List ℕ) (n m a k : ℕ) (r : Cell) : Type 0 where
 
 module _ (ws : List ℕ) (n m a k : ℕ) (ha : a < n) where
   nowhere : (x : ℕ) → CellBroken ≡ CellAt x → x < m
-  nowhere x e = let z : _≡_ {A = ℕ} 0 1 = cc in absurd (omega arith)
+  nowhere x e = zero-one cc
 
   pub reach-past : at ws (a + n + n) ≤ k → Reached ws n m a k CellBroken
   reach-past h = record {

@@ -8,7 +8,7 @@ use native.Mathlib.Decide.{decLt}
 use native.Mathlib.Omega.{arith}
 use lib.ListN.{length}
 use Rattle.lists.specs.Reads.{at}
-use Rattle.lists.specs.Tests.{lt-or, when, when-no, when-yes}
+use Rattle.lists.specs.Tests.{lt-or, when, when-no, when-yes, zero-one}
 use Rattle.cells.specs.Pool.{Pool}
 use Rattle.cells.specs.Stretch.{Part, part-link, part-low}
 use Rattle.cells.specs.declared.Cell.{Cell}
@@ -47,7 +47,7 @@ module _ (ws : List ℕ) (n m : ℕ) where
       ⊎-elim
       (λ (l : at ws (n + n + n + c) < m). trail-inside k (at ws (n + n + n + c)) x l (sym (trail-on k c l) ∙ e))
       (λ (l : m ≤ at ws (n + n + n + c)). let f : CellBroken ≡ CellAt x = sym (trail-off k c l) ∙ e in
-      let z : _≡_ {A = ℕ} 0 1 = cc in absurd (omega arith))
+      zero-one cc)
       (lt-or (at ws (n + n + n + c)) m)
 
   -- a turn of the loop: w is the link of c, and i steps are left

@@ -13,6 +13,7 @@ use lib.ListN.{length, length-map}
 use lib.Seq.{ext-getD}
 use Rattle.lists.specs.Members.{Mem, mem-nil}
 use Rattle.lists.specs.Reads.{at, getD-map-lt}
+use Rattle.lists.specs.Tests.{zero-one}
 use Rattle.language.specs.Term.{Match, Term}
 use Rattle.steps.specs.Forced.{Forced, Made, alike, asked, back, rebuilt, self, then}
 use Rattle.steps.specs.Graph.{Graph, canon, ids, kept, key-of, node, root, uses}
@@ -122,7 +123,7 @@ clean-empty M = made-keeps (λ c g. g .clean ≡ true → g .pending ≡ []) (re
 }) M
   where
     false≢true : _≡_ {A = Bool} false true → ⊥
-    false≢true e = let z : _≡_ {A = ℕ} 0 1 = cc in omega arith
+    false≢true e = zero-one cc
 
 -- demand 3: then two ids have one root exactly when the requested unions force them equal
 pub demand-3 : {us : List (ℕ × ℕ)} {g : Graph} → Made us g → g .clean ≡ true → (i j : ℕ) → (root (g .roots) i ≡ root (g .roots) j) ↔ Forced (g .nodes) us i j

@@ -7,6 +7,7 @@ use mathlib.Core.Path.{_∙_, _≡_, ap, fun-ext, refl, sym}
 use Prim.Native.Nat.{_<_, suc, ℕ}
 use Rattle.lists.specs.Members.{Mem, here, mem-cases, mem-map, there}
 use Rattle.lists.specs.Reads.{at, length-more, lt-more}
+use Rattle.lists.specs.Tests.{zero-one}
 use Rattle.language.specs.Term.{Match, Term}
 use Rattle.steps.specs.Forced.{Forced, alike, asked, back, self, then}
 use Rattle.steps.specs.Graph.{Graph, canon, ids, kept, key-of, node, root, uses}
@@ -144,7 +145,7 @@ module _ (us : List (ℕ × ℕ)) (g : Graph) (x : Term) (G : Good Same us g) (k
       key j h = rw (old-node j h) (ap (λ f. record { op = node (g .nodes) j .op; payload = node (g .nodes) j .payload; kids = map f (node (g .nodes) j .kids) }) roots-same)
 
       never : (j m : ℕ) → kept (key-of g j) (g .memo) ≡ some m → key-of g j ≡ canon (g .roots) x → ⊥
-      never j m e q = let z : _≡_ {A = ℕ} 0 1 = cc in omega arith
+      never j m e q = zero-one cc
 
       old : (j : ℕ) → j < ids g → Mem j (g .pending) ⊎ Settled Same (g .nodes) (g .roots) (g .memo) j
           → Mem j (ids g ∷ g .pending) ⊎ Settled Same ns′ rs′ ((canon (g .roots) x, ids g) ∷ g .memo) j

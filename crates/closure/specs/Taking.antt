@@ -6,12 +6,12 @@ use mathlib.Core.Option.{Option, none, some}
 use mathlib.Core.Path.{_∙_, _≡_, ap, refl}
 use Prim.Native.Nat.{_<_, ℕ}
 use Rattle.lists.specs.Members.{Mem, here, mem-cases, there}
+use Rattle.lists.specs.Tests.{zero-one}
 use Rattle.language.specs.Term.{Term, same-term}
 use Rattle.steps.specs.Graph.{Graph, ids, kept, key-of, node, root}
 use Rattle.steps.specs.Machine.{Rebuild, close, done, linked, more, step, taken}
 use Rattle.closure.specs.Facts.{kept-here, kept-past}
 use Rattle.closure.specs.Invariant.{Good, Owed, Same, Settled, Shape, Sound, canon-stands, set-sound, stand-forced}
-use native.Mathlib.Omega.{arith}
 use Rattle.closure.specs.Merging.{union-good}
 
 module _ (us : List (ℕ × ℕ)) (g : Graph) (i : ℕ) (rest : List ℕ) (G : Good Same us g) (top : g .pending ≡ i ∷ rest) where
@@ -65,7 +65,7 @@ module _ (us : List (ℕ × ℕ)) (g : Graph) (i : ℕ) (rest : List ℕ) (G : G
   close-good none e = taken-good Same (λ x y q. q) (λ m q. absurd (never m q))
     where
       never : (m : ℕ) → kept (key-of g i) (g .memo) ≡ some m → ⊥
-      never m q = let z : _≡_ {A = ℕ} 0 1 = cc in omega arith
+      never m q = zero-one cc
   close-good (some o) e = union-good us (taken g i rest) o i (G .sound .memo-lt (key-of g i) o e) top-lt
       (stand-forced us (g .nodes) (key-of g i) o i (G .sound .memo-lt (key-of g i) o e) top-lt
       (G .sound .keys (key-of g i) o e) (canon-stands us (g .nodes) (g .roots) (node (g .nodes) i) (G .sound .to-root)))

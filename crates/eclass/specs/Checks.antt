@@ -10,7 +10,7 @@ use native.Mathlib.Decide.{ℕ-discrete}
 use native.Mathlib.Omega.{arith}
 use Rattle.lists.specs.Members.{Mem, mem-cases, mem-nil}
 use Rattle.lists.specs.Reads.{at}
-use Rattle.lists.specs.Tests.{Says, says-no, says-yes}
+use Rattle.lists.specs.Tests.{Says, says-no, says-yes, zero-one}
 use Rattle.steps.specs.Graph.{Graph}
 use Rattle.holds.specs.Holds.{HoldsAt}
 use Rattle.layout.specs.View.{View, view}
@@ -35,8 +35,8 @@ pub record Totals (ms : List ℕ) (n N : ℕ) (r : Total) : Type 0 where
 module _ (ms : List ℕ) (n N : ℕ) where
   pub total-stop : (i t k : ℕ) → i < N → t ≡ total-of ms n i → k ≡ len-of ms n i → t ≤ N → N - t < k → Totals ms n N TotalBroken
   total-stop i t k h e f l q = record {
-    exact = λ s (p : TotalBroken ≡ TotalIs s). let z : _≡_ {A = ℕ} 0 1 = cc in absurd (omega arith);
-    few = λ s (p : TotalBroken ≡ TotalIs s). let z : _≡_ {A = ℕ} 0 1 = cc in absurd (omega arith);
+    exact = λ s (p : TotalBroken ≡ TotalIs s). zero-one cc;
+    few = λ s (p : TotalBroken ≡ TotalIs s). zero-one cc;
     broken = λ _. omega (arith, total-more ms n i, total-le ms n N (i + 1) (omega arith));
   }
 
@@ -44,7 +44,7 @@ module _ (ms : List ℕ) (n N : ℕ) where
   total-end i t e f l = record {
     exact = λ s (p : TotalIs t ≡ TotalIs s). let q : t ≡ s = cc in rw (← q, ← e) f;
     few = λ s (p : TotalIs t ≡ TotalIs s). let q : t ≡ s = cc in rw (← q) l;
-    broken = λ (p : TotalIs t ≡ TotalBroken). let z : _≡_ {A = ℕ} 0 1 = cc in absurd (omega arith);
+    broken = λ (p : TotalIs t ≡ TotalBroken). zero-one cc;
   }
 
 -- ---- whether the walks are unbroken
@@ -73,7 +73,7 @@ pub unbroken : {h : Head} {u : ℕ} {v : View} {g : Graph} → HoldsAt h u v g �
 unbroken {h} H c = record { few = total-few H c; fine = λ r l. members-fine H r (omega (arith, H .range .ids-in)) }
 
 done≢broken : FetchDone ≡ FetchBroken → ⊥
-done≢broken p = let z : _≡_ {A = ℕ} 0 1 = cc in omega arith
+done≢broken p = zero-one cc
 
 -- one id
 module _ (rs : List ℕ) (n m N x : ℕ) where

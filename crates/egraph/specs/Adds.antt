@@ -9,6 +9,7 @@ use mathlib.Core.Path.{_∙_, _≡_, ap, refl, subst, sym}
 use Prim.Native.Nat.{_<_, _≤_, ℕ}
 use native.Mathlib.Omega.{arith}
 use lib.ListN.{length}
+use Rattle.lists.specs.Tests.{zero-one}
 use Rattle.language.specs.Struct.{nodeOf}
 use Rattle.language.specs.Term.{Term, places}
 use Rattle.language.specs.declared.Id.{Id}
@@ -119,8 +120,8 @@ lookup-on ws x r G h e a L = gate-on ws x r G (λ k. lookup-says a ≡ no-by k) 
 module _ (ws : List ℕ) (h : Head) (q : HeadIs (length ws) (hd ws) h) (x : Node) (p : Probed) (P : Probes h x ws p) where
   -- no graph has these words
   none-has : p .out ≡ SeenBroken → (g : Graph) → Holds ws g → (o : Option ℕ) → kept-for g (nodeOf x) ≡ o → ⊥
-  none-has e g H (some i) k = let f = P .found g (h .places) i (holds-in ws h g q H) k in let z : _≡_ {A = ℕ} 0 1 = cc in omega arith
-  none-has e g H none k = let f = P .absent g (h .places) (holds-in ws h g q H) k .0 in let z : _≡_ {A = ℕ} 0 1 = cc in omega arith
+  none-has e g H (some i) k = let f = P .found g (h .places) i (holds-in ws h g q H) k in zero-one cc
+  none-has e g H none k = let f = P .absent g (h .places) (holds-in ws h g q H) k .0 in zero-one cc
 
   pub lookup-broken : p .out ≡ SeenBroken → LookupOpen ws (nodeOf x) (LookupNot BrokenWords)
   lookup-broken e = record { fair = λ k f _. nine k f; sound = λ g H. absurd (none-has e g H (kept-for g (nodeOf x)) refl) }
@@ -130,14 +131,14 @@ module _ (ws : List ℕ) (h : Head) (q : HeadIs (length ws) (hd ws) h) (x : Node
   lookup-none e = record { fair = λ k f n. absurd (n (sym (ap (λ (a : Answer). a .number) f))); sound = λ g H. go g H (kept-for g (nodeOf x)) refl }
     where
       go : (g : Graph) → Holds ws g → (o : Option ℕ) → kept-for g (nodeOf x) ≡ o → yes-with [] ≡ found-as (lookup g (nodeOf x))
-      go g H (some i) k = let f = P .found g (h .places) i (holds-in ws h g q H) k in let z : _≡_ {A = ℕ} 0 1 = cc in absurd (omega arith)
+      go g H (some i) k = let f = P .found g (h .places) i (holds-in ws h g q H) k in zero-one cc
       go g H none k = rw k refl
 
   module _ (y : Id) (e : p .out ≡ SeenAt y) where
     -- the id that was seen is the one that is kept
     seen-is : (g : Graph) → Holds ws g → (o : Option ℕ) → kept-for g (nodeOf x) ≡ o → kept-for g (nodeOf x) ≡ some (y .0)
     seen-is g H (some i) k = let f = P .found g (h .places) i (holds-in ws h g q H) k in let z : i ≡ y .0 = cc in k ∙ ap some z
-    seen-is g H none k = let f = P .absent g (h .places) (holds-in ws h g q H) k .0 in let z : _≡_ {A = ℕ} 0 1 = cc in absurd (omega arith)
+    seen-is g H none k = let f = P .absent g (h .places) (holds-in ws h g q H) k .0 in zero-one cc
 
     module _ (f : Found) (F : Finds (view (h .n) (h .m) ws .forest) (h .ids) (y .0) f) where
       law : (g : Graph) → Holds ws g → f ≡ FoundRoot (root (g .roots) (y .0))
@@ -145,7 +146,7 @@ module _ (ws : List ℕ) (h : Head) (q : HeadIs (length ws) (hd ws) h) (x : Node
       law g H = F .law (h .classes) (g .roots) (holds-in ws h g q H .forest)
 
       pub lookup-lost : f ≡ FoundLost → LookupOpen ws (nodeOf x) (LookupNot BrokenWords)
-      lookup-lost l = record { fair = λ k s _. nine k s; sound = λ g H. let a = law g H in let z : _≡_ {A = ℕ} 0 1 = cc in absurd (omega arith) }
+      lookup-lost l = record { fair = λ k s _. nine k s; sound = λ g H. let a = law g H in zero-one cc }
 
       pub lookup-found : (z : ℕ) → f ≡ FoundRoot z → LookupOpen ws (nodeOf x) (LookupFound (record { 0 = z }))
       unfolding lookup
@@ -226,9 +227,9 @@ module _ (id : Graph → ℕ) (ws : List ℕ) (h : Head) (q : HeadIs (length ws)
     scratch = scratch-still ws h q ws1 (U .inside .scratch);
     limits = limits-stay ws ws1 (U .inside .head);
     fair = λ k s. inl (nine k s);
-    found = λ g i H k. let a = U .found g i (holds-in ws h g q H) k in let z : _≡_ {A = ℕ} 0 1 = cc in absurd (omega arith);
-    shut = λ g H k f. let a = U .shut g (holds-in ws h g q H) k (full-in f) in let z : _≡_ {A = ℕ} 0 1 = cc in absurd (omega arith);
-    grown = λ g H k f. let a = U .grown g (holds-in ws h g q H) k (room-in f) .1 in let z : _≡_ {A = ℕ} 0 1 = cc in absurd (omega arith);
+    found = λ g i H k. let a = U .found g i (holds-in ws h g q H) k in zero-one cc;
+    shut = λ g H k f. let a = U .shut g (holds-in ws h g q H) k (full-in f) in zero-one cc;
+    grown = λ g H k f. let a = U .grown g (holds-in ws h g q H) k (room-in f) .1 in zero-one cc;
   }
 
   pub adding-full : u ≡ GaveFull → Adding id ws x (AddNot NoRoom) ws1
@@ -238,9 +239,9 @@ module _ (id : Graph → ℕ) (ws : List ℕ) (h : Head) (q : HeadIs (length ws)
     scratch = scratch-still ws h q ws1 (U .inside .scratch);
     limits = limits-stay ws ws1 (U .inside .head);
     fair = λ k s. inr (sym (ap (λ (a : Answer). a .number) s), U .full e .1);
-    found = λ g i H k. let a = U .found g i (holds-in ws h g q H) k in let z : _≡_ {A = ℕ} 0 1 = cc in absurd (omega arith);
+    found = λ g i H k. let a = U .found g i (holds-in ws h g q H) k in zero-one cc;
     shut = λ g H k f. (refl, U .full e .1);
-    grown = λ g H k f. let a = U .grown g (holds-in ws h g q H) k (room-in f) .1 in let z : _≡_ {A = ℕ} 0 1 = cc in absurd (omega arith);
+    grown = λ g H k f. let a = U .grown g (holds-in ws h g q H) k (room-in f) .1 in zero-one cc;
   }
 
   module _ (y : Id) (e : u ≡ GaveOld y) where
@@ -249,10 +250,10 @@ module _ (id : Graph → ℕ) (ws : List ℕ) (h : Head) (q : HeadIs (length ws)
     old-is g i H k = let a = U .found g i (holds-in ws h g q H) k in cc
 
     not-shut : (g : Graph) → Holds ws g → kept-for g x ≡ none → Full (head-of ws) x → ⊥
-    not-shut g H k f = let a = U .shut g (holds-in ws h g q H) k (full-in f) in let z : _≡_ {A = ℕ} 0 1 = cc in omega arith
+    not-shut g H k f = let a = U .shut g (holds-in ws h g q H) k (full-in f) in zero-one cc
 
     not-grown : (g : Graph) → Holds ws g → kept-for g x ≡ none → Room (head-of ws) x → ⊥
-    not-grown g H k f = let a = U .grown g (holds-in ws h g q H) k (room-in f) .1 in let z : _≡_ {A = ℕ} 0 1 = cc in omega arith
+    not-grown g H k f = let a = U .grown g (holds-in ws h g q H) k (room-in f) .1 in zero-one cc
 
     pub adding-old : (v : ℕ) → ((g : Graph) → Holds ws g → kept-for g x ≡ some (y .0) → id g ≡ v) → Adding id ws x (AddId (record { 0 = v })) ws1
     adding-old v w = record {
@@ -280,7 +281,7 @@ module _ (id : Graph → ℕ) (ws : List ℕ) (h : Head) (q : HeadIs (length ws)
         scratch = scratch-still ws h q ws1 (U .inside .scratch);
         limits = limits-stay ws ws1 (U .inside .head);
         fair = λ k s. inl (nine k s);
-        found = λ g i H k. let a = find-law g H in let z : _≡_ {A = ℕ} 0 1 = cc in absurd (omega arith);
+        found = λ g i H k. let a = find-law g H in zero-one cc;
         shut = λ g H k s. absurd (not-shut g H k s);
         grown = λ g H k s. absurd (not-grown g H k s);
       }
@@ -293,8 +294,8 @@ module _ (id : Graph → ℕ) (ws : List ℕ) (h : Head) (q : HeadIs (length ws)
     scratch = scratch-still ws h q ws2 (ap (λ (v : View). v .scratch) (N .else (h .n) (h .m)) ∙ U .inside .scratch);
     limits = limits-written ws ws1 ws2 h k q N2 (ok-still N2 (U .inside .size)) N;
     fair = λ j s. absurd (never j (h .ids) s);
-    found = λ g i H m. let a = U .found g i (holds-in ws h g q H) m in let z : _≡_ {A = ℕ} 0 1 = cc in absurd (omega arith);
-    shut = λ g H m f. let a = U .shut g (holds-in ws h g q H) m (full-in f) in let z : _≡_ {A = ℕ} 0 1 = cc in absurd (omega arith);
+    found = λ g i H m. let a = U .found g i (holds-in ws h g q H) m in zero-one cc;
+    shut = λ g H m f. let a = U .shut g (holds-in ws h g q H) m (full-in f) in zero-one cc;
     grown = λ g H m f. (ap (λ (j : ℕ). yes-with (j ∷ [])) (holds-in ws h g q H .ids-are ∙ sym (w g H m)), held g H m (room-in f));
   }
     where

@@ -7,6 +7,7 @@ use mathlib.Core.Path.{_∙_, _≡_, ap, refl, sym}
 use Prim.Native.Nat.{_+_, _<_, _≤_, ℕ}
 use native.Mathlib.Omega.{arith}
 use lib.ListN.{length}
+use Rattle.lists.specs.Tests.{zero-one}
 use Rattle.language.specs.Struct.{nodeOf}
 use Rattle.language.specs.Term.{Term, places, spell, words}
 use Rattle.steps.specs.Classes.{nodes}
@@ -61,10 +62,10 @@ pub no-says : (q : Refusal) (r : NodeAnswer) → NoNode q r → node-says r ≡ 
 no-says q r n = rw (n .why) refl
 
 is≢not : (q : Refusal) → NodeIs ≡ NodeNot q → ⊥
-is≢not q p = let z : _≡_ {A = ℕ} 0 1 = cc in omega arith
+is≢not q p = zero-one cc
 
 done≢broken : FetchDone ≡ FetchBroken → ⊥
-done≢broken p = let z : _≡_ {A = ℕ} 0 1 = cc in omega arith
+done≢broken p = zero-one cc
 
 module _ (ws : List ℕ) (h : Head) (q : HeadIs (length ws) (hd ws) h) (i : ℕ) (f : Fetched) (G : Given (view (h .n) (h .m) ws .rows) (h .n) (h .m) i f) (hi : i < h .ids) where
   -- what the rows answer on words that hold a graph
@@ -109,7 +110,7 @@ pub record Measured (rs : List ℕ) (n m k : ℕ) (r : ListAnswer) : Type 0 wher
   pub broken : (q : Refusal) → r ≡ ListNot q → (q ≡ BrokenWords) × (((i : ℕ) → i < k → Sane rs n m i) → ⊥)
 
 pub words≢not : (x : ℕ) (q : Refusal) → ListWords x ≡ ListNot q → ⊥
-words≢not x q p = let z : _≡_ {A = ℕ} 0 1 = cc in omega arith
+words≢not x q p = zero-one cc
 
 module _ (rs : List ℕ) (n m i : ℕ) (f : Fetched) (G : Given rs n m i f) where
   pub row-broken : f .out ≡ FetchBroken → RowWords rs n m i (ListNot BrokenWords)

@@ -6,10 +6,10 @@ use mathlib.Core.List.{List, [], _∷_}
 use mathlib.Core.Logic.{_≢_}
 use mathlib.Core.Path.{_∙_, _≡_, ap, refl, sym}
 use Prim.Native.Nat.{_<_, _≤_, ℕ}
-use native.Mathlib.Omega.{arith}
 use lib.Dec.{eqb}
 use lib.ListN.{length}
 use borrow.Author.Tests.{eq-eqb, ne-eqb}
+use Rattle.lists.specs.Tests.{zero-one}
 use Rattle.steps.specs.Classes.{number-of-classes}
 use Rattle.steps.specs.Graph.{Graph, ids, root}
 use Rattle.egraph.specs.Answers.{Answer, Else, Unless-3, count-says, find-says, flag, flag-says, head-of, never, nine, no-by, yes-with}
@@ -51,7 +51,7 @@ module _ (ws : List ℕ) (h : Head) (q : HeadIs (length ws) (hd ws) h) (i : ℕ)
   find-lost e = record { fair = nine; sound = λ g H. absurd (apart (sym e ∙ law g H)) }
     where
       apart : {x : ℕ} → FoundLost ≡ FoundRoot x → ⊥
-      apart p = let z : _≡_ {A = ℕ} 0 1 = cc in omega arith
+      apart p = zero-one cc
 
   pub find-root : (x : ℕ) → r ≡ FoundRoot x → FindOpen ws i (FindRoot (record { 0 = x }))
   find-root x e = record {

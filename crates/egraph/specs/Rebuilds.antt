@@ -6,8 +6,8 @@ use mathlib.Core.List.{List, [], _∷_}
 use mathlib.Core.Logic.{_⊎_, inl, inr}
 use mathlib.Core.Path.{_∙_, _≡_, ap, refl, subst, sym}
 use Prim.Native.Nat.{ℕ}
-use native.Mathlib.Omega.{arith}
 use lib.ListN.{length}
+use Rattle.lists.specs.Tests.{zero-one}
 use Rattle.steps.specs.Forced.{Made}
 use Rattle.steps.specs.Graph.{Graph}
 use Rattle.steps.specs.Machine.{Rebuild}
@@ -64,7 +64,7 @@ module _ (ws : List ℕ) (h : Head) (q : HeadIs (length ws) (hd ws) h) (ws1 : Li
     scratch = scratch-still ws h q ws1 (R .inside .scratch);
     limits = limits-stay ws ws1 (R .inside .head);
     fair = nine;
-    sound = λ g us H M y t z B. let b = told g us H M .answer in let z : _≡_ {A = ℕ} 0 1 = cc in absurd (omega arith);
+    sound = λ g us H M y t z B. let b = told g us H M .answer in zero-one cc;
   }
 
   -- the head written back

@@ -8,6 +8,7 @@ use mathlib.Core.Path.{_∙_, _≡_, ap, refl, sym}
 use Prim.Native.Nat.{_<_, _≤_, ℕ}
 use native.Mathlib.Omega.{arith}
 use lib.ListN.{length}
+use Rattle.lists.specs.Tests.{zero-one}
 use Rattle.steps.specs.Graph.{Graph}
 use Rattle.steps.specs.Machine.{union}
 use Rattle.egraph.specs.Answers.{Else, SameLimits, Unless-3, flag, head-of, limits-stay, limits-written, never, nine, no-by, ok-still, past, past-rest, scratch-of, scratch-still, union-says, written-back, yes-with}
@@ -58,8 +59,8 @@ module _ (ws : List ℕ) (h : Head) (q : HeadIs (length ws) (hd ws) h) (i j : �
   }
     where
       lost : (b : Bool) (k : Head) → UnitedBroken ≡ told b k → ⊥
-      lost true k p = let z : _≡_ {A = ℕ} 0 1 = cc in omega arith
-      lost false k p = let z : _≡_ {A = ℕ} 0 1 = cc in omega arith
+      lost true k p = zero-one cc
+      lost false k p = zero-one cc
 
   -- the head written back
   module _ (k : Head) (N2 : NearIds (length ws) h k) (ws2 : List ℕ) (N : Noted ws1 ws2 (written (hd ws1) k)) where
@@ -88,7 +89,7 @@ module _ (ws : List ℕ) (h : Head) (q : HeadIs (length ws) (hd ws) h) (i j : �
         go : (g : Graph) (b : Bool) → union g i j .answer ≡ b → (k′ : Head) → UnitedYes k ≡ told b k′ → HoldsAt k′ (h .places) (view (h .n) (h .m) ws1) (union g i j .graph)
             → (yes-with (1 ∷ []) ≡ yes-with (flag (union g i j .answer))) × Holds ws2 (union g i j .graph)
         go g true b k′ p H = let d : k′ ≡ k = cc in (rw b refl, held (union g i j .graph) (rw d at H))
-        go g false b k′ p H = let z : _≡_ {A = ℕ} 0 1 = cc in absurd (omega arith)
+        go g false b k′ p H = zero-one cc
 
     pub union-no : u ≡ UnitedNo k → UnionOpen ws i j UnionNo ws2
     union-no e = record {
@@ -103,4 +104,4 @@ module _ (ws : List ℕ) (h : Head) (q : HeadIs (length ws) (hd ws) h) (i j : �
         go : (g : Graph) (b : Bool) → union g i j .answer ≡ b → (k′ : Head) → UnitedNo k ≡ told b k′ → HoldsAt k′ (h .places) (view (h .n) (h .m) ws1) (union g i j .graph)
             → (yes-with (0 ∷ []) ≡ yes-with (flag (union g i j .answer))) × Holds ws2 (union g i j .graph)
         go g false b k′ p H = let d : k′ ≡ k = cc in (rw b refl, held (union g i j .graph) (rw d at H))
-        go g true b k′ p H = let z : _≡_ {A = ℕ} 0 1 = cc in absurd (omega arith)
+        go g true b k′ p H = zero-one cc

@@ -9,6 +9,7 @@ use native.Mathlib.Numerals.{add-one}
 use native.Mathlib.Omega.{arith}
 use lib.ListN.{length, take}
 use lib.Seq.{take-length, take-suc}
+use Rattle.lists.specs.Tests.{zero-one}
 use Rattle.language.specs.Struct.{nodeOf}
 use Rattle.language.specs.Term.{Term, places, spell, words}
 use Rattle.steps.specs.Graph.{Graph, node}
@@ -49,7 +50,7 @@ pub record FormMeasured (rs ss : List ℕ) (n m k : ℕ) (r : FormLength) : Type
   pub broken : r ≡ FormLengthBroken → FineForm rs ss n m k → ⊥
 
 pub broken-is : {A : Type 0} (x : ℕ) → FormLengthBroken ≡ FormLengthIs x → A
-broken-is x e = let z : _≡_ {A = ℕ} 0 1 = cc in absurd (omega arith)
+broken-is x e = zero-one cc
 
 module _ (rs ss : List ℕ) (n m p : ℕ) (f : Placed) (N : NodeAt rs ss n m p f) where
   pub words-broken : f .out ≡ PlacingBroken → NodeMeasured rs ss n m p FormLengthBroken

@@ -10,6 +10,7 @@ use native.Mathlib.Omega.{arith}
 use lib.ListN.{length}
 use Rattle.lists.specs.Members.{mem-at}
 use Rattle.lists.specs.Reads.{at, map-at}
+use Rattle.lists.specs.Tests.{zero-one}
 use Rattle.language.specs.Struct.{nodeOf}
 use Rattle.language.specs.Term.{Term, over-kids, places, term-path, words}
 use Rattle.steps.specs.Graph.{Graph, ids, node}
@@ -80,7 +81,7 @@ module _ (n : ℕ) (ss : List ℕ) (p c : ℕ) (L : Loaded ss (4 * n + p) c) whe
 -- ---- the node
 
 fetched-not : {A : Type 0} → FetchDone ≡ FetchBroken → A
-fetched-not e = let z : _≡_ {A = ℕ} 0 1 = cc in absurd (omega arith)
+fetched-not e = zero-one cc
 
 module _ (rs ss : List ℕ) (n m p w : ℕ) (M : MarkAt n ss p w) where
   -- the mark that was read, where nothing leads astray

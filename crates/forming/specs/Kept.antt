@@ -10,7 +10,7 @@ use native.Mathlib.Omega.{arith}
 use lib.ListN.{length}
 use Rattle.lists.specs.Members.{Mem, here, mem-at, there}
 use Rattle.lists.specs.Reads.{at, map-at}
-use Rattle.lists.specs.Tests.{eq-or}
+use Rattle.lists.specs.Tests.{eq-or, zero-one}
 use Rattle.language.specs.Term.{Term, term-path}
 use Rattle.price.specs.Chosen.{Backed, Deep, Ranked, no-circle}
 use Rattle.price.specs.Listing.{Listing, cheapest, each, enter, entry, or-zero, spot, spot-of, visit, with-places}
@@ -100,7 +100,7 @@ module _ {P : Type 0} (R : Rule P) (nodes : ℕ → List Term) (t : Table P) (B 
 
   fine-none : Fine R nodes t B K []
   unfolding spot
-  fine-none = record { once = tt; shown = λ c p h. let z : _≡_ {A = ℕ} 0 1 = cc in absurd (omega arith) }
+  fine-none = record { once = tt; shown = λ c p h. zero-one cc }
 
   kept-none : Kept t []
   kept-none = record { each = λ p h. absurd (omega arith) }

@@ -8,6 +8,7 @@ use Prim.Native.Nat.{_*_, _+_, _-_, _<_, _≤_, ℕ}
 use native.Mathlib.Omega.{arith}
 use lib.ListN.{length}
 use Rattle.lists.specs.Reads.{at}
+use Rattle.lists.specs.Tests.{zero-one}
 use Rattle.language.specs.Partway.{Partway, partway-all, partway-more}
 use Rattle.language.specs.Struct.{nodeOf}
 use Rattle.language.specs.Term.{Term, over-kids, places, rekid}
@@ -38,11 +39,11 @@ pub record WithPlaces (n : ℕ) (ss : List ℕ) (x : Term) (r : Placed) : Type 0
   pub only : r .out ≡ PlacingDone → KidsPlaced n ss x
 
 pub done≢broken : PlacingDone ≡ PlacingBroken → ⊥
-done≢broken e = let z : _≡_ {A = ℕ} 0 1 = cc in omega arith
+done≢broken e = zero-one cc
 
 -- refused, where it must be
 pub not-done : (r : Placed) → NoNode r → {A : Type 0} → r .out ≡ PlacingDone → A
-not-done r N e = let z : _≡_ {A = ℕ} 0 1 = cc (e, N .not) in absurd (omega arith)
+not-done r N e = zero-one (cc (e, N .not))
 
 -- ---- the loop
 

@@ -7,6 +7,7 @@ use mathlib.Core.Path.{_≡_, ap, refl}
 use Prim.Native.Nat.{_+_, ℕ}
 use native.Mathlib.Omega.{arith}
 use lib.ListN.{length}
+use Rattle.lists.specs.Tests.{zero-one}
 use Rattle.holds.specs.HoldsLaws.{root-again}
 use Rattle.cells.specs.Changes.{change-apart}
 use Rattle.language.specs.Term.{Term}
@@ -64,7 +65,7 @@ grown-broken {r = r} G e = record {
 }
   where
     broken-apart : {t : Head} → SteppedBroken ≡ SteppedTo t → ⊥
-    broken-apart q = let z : _≡_ {A = ℕ} 0 1 = cc in omega arith
+    broken-apart q = zero-one cc
 
 module _ (h : Head) (c : ℕ) (x k : Term) where
   -- the numbers once the id is stored

@@ -6,6 +6,7 @@ use Prim.Native.Nat.{_+_, _<_, ℕ}
 use native.Mathlib.Omega.{arith}
 use lib.ListN.{length}
 use Rattle.lists.specs.Reads.{at}
+use Rattle.lists.specs.Tests.{zero-one}
 use Rattle.language.specs.Partway.{Partway, partway-all, partway-more}
 use Rattle.language.specs.Struct.{nodeOf}
 use Rattle.language.specs.Term.{Term, rekid}
@@ -69,7 +70,7 @@ module _ (ws : List ℕ) (h : Head) (x : Node) where
   }
     where
       apart : _≡_ {A = Rooting} RootingBroken RootingDone → ⊥
-      apart b = let z : _≡_ {A = ℕ} 0 1 = cc in omega arith
+      apart b = zero-one cc
 
       never : {y : ℕ} → r ≡ FoundRoot y → ⊥
-      never q = let z : _≡_ {A = ℕ} 0 1 = cc in omega arith
+      never q = zero-one cc

@@ -6,9 +6,8 @@ use mathlib.Core.List.{List}
 use mathlib.Core.Logic.{⊎-elim}
 use mathlib.Core.Path.{_≡_, ap, refl, subst, sym}
 use Prim.Native.Nat.{_<_, _≤_, ℕ}
-use native.Mathlib.Omega.{arith}
 use lib.ListN.{length}
-use Rattle.lists.specs.Tests.{lt-or}
+use Rattle.lists.specs.Tests.{lt-or, zero-one}
 use Rattle.language.specs.Term.{places}
 use Rattle.steps.specs.Classes.{classes}
 use Rattle.steps.specs.Graph.{Graph, ids, root}
@@ -23,7 +22,7 @@ use Rattle.layout.specs.declared.Head.{Head}
 use Rattle.unionfind.specs.Forest.{Forest, root-root}
 
 pub false≢true : _≡_ {A = Bool} false true → ⊥
-false≢true e = let z : _≡_ {A = ℕ} 0 1 = cc in omega arith
+false≢true e = zero-one cc
 
 abbrev pub unclean : Head → Head
 unclean h = record { n = h .n; m = h .m; ids = h .ids; places = h .places; depth = h .depth; classes = h .classes; clean = false }

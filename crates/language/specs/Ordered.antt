@@ -11,6 +11,7 @@ use native.Mathlib.Decide.{decLt}
 use lib.Dec.{ltb}
 use lib.ListN.{length}
 use borrow.Author.Tests.{lt-ltb, le-ltb}
+use Rattle.lists.specs.Tests.{zero-one}
 use Rattle.language.specs.declared.Ordering.{Ordering}
 use Rattle.language.specs.declared.Ordering.the-variants.{Less, Equal, Greater}
 use Rattle.language.specs.Term.{Term, words, term-path}
@@ -78,17 +79,17 @@ is-equal : (a b : ℕ) → compare a b ≡ Equal → a ≡ b
 is-equal a b e = go (view a b)
   where
     go : View a b → a ≡ b
-    go (below h) = let p : compare a b ≡ Less = less a b h in let z : _≡_ {A = ℕ} 0 1 = cc in absurd (omega arith)
+    go (below h) = let p : compare a b ≡ Less = less a b h in zero-one cc
     go (alike q) = q
-    go (above h) = let p : compare a b ≡ Greater = greater a b h in let z : _≡_ {A = ℕ} 0 1 = cc in absurd (omega arith)
+    go (above h) = let p : compare a b ≡ Greater = greater a b h in zero-one cc
 
 is-less : (a b : ℕ) → compare a b ≡ Less → a < b
 is-less a b e = go (view a b)
   where
     go : View a b → a < b
     go (below h) = h
-    go (alike q) = let p : compare a b ≡ Equal = equal a b (omega arith) (omega arith) in let z : _≡_ {A = ℕ} 0 1 = cc in absurd (omega arith)
-    go (above h) = let p : compare a b ≡ Greater = greater a b h in let z : _≡_ {A = ℕ} 0 1 = cc in absurd (omega arith)
+    go (alike q) = let p : compare a b ≡ Equal = equal a b (omega arith) (omega arith) in zero-one cc
+    go (above h) = let p : compare a b ≡ Greater = greater a b h in zero-one cc
 
 -- ---- orderings
 
@@ -98,17 +99,17 @@ reversed Equal = Equal
 reversed Greater = Less
 
 pub less≢equal : _≡_ {A = Ordering} Less Equal → ⊥
-less≢equal e = let z : _≡_ {A = ℕ} 0 1 = cc in omega arith
+less≢equal e = zero-one cc
 
 then-equal : (o q : Ordering) → and-then o q ≡ Equal → (o ≡ Equal) × (q ≡ Equal)
 then-equal Less q e = absurd (less≢equal e)
 then-equal Equal q e = (refl, e)
-then-equal Greater q e = let z : _≡_ {A = ℕ} 0 1 = cc in absurd (omega arith)
+then-equal Greater q e = zero-one cc
 
 then-less : (o q : Ordering) → and-then o q ≡ Less → (o ≡ Less) ⊎ ((o ≡ Equal) × (q ≡ Less))
 then-less Less q e = inl refl
 then-less Equal q e = inr (refl, e)
-then-less Greater q e = let z : _≡_ {A = ℕ} 0 1 = cc in absurd (omega arith)
+then-less Greater q e = zero-one cc
 
 then-reversed : (o q : Ordering) → reversed (and-then o q) ≡ and-then (reversed o) (reversed q)
 then-reversed Less q = refl
@@ -148,7 +149,7 @@ all-equal : (xs ys : List ℕ) → compare-all xs ys ≡ Equal → xs ≡ ys
 unfolding compare-all
 all-equal [] [] e = refl
 all-equal [] (y ∷ ys) e = absurd (less≢equal e)
-all-equal (x ∷ xs) [] e = let z : _≡_ {A = ℕ} 0 1 = cc in absurd (omega arith)
+all-equal (x ∷ xs) [] e = zero-one cc
 all-equal (x ∷ xs) (y ∷ ys) e =
     let s = then-equal (compare x y) (compare-all xs ys) e in let h = is-equal x y (s .0) in let t = all-equal xs ys (s .1) in
     λ i. h i ∷ t i
@@ -163,9 +164,9 @@ all-reversed (x ∷ xs) (y ∷ ys) = rw (compare-reversed x y, all-reversed xs y
 all-trans : (xs ys zs : List ℕ) → compare-all xs ys ≡ Less → compare-all ys zs ≡ Less → compare-all xs zs ≡ Less
 unfolding compare-all
 all-trans [] [] zs p q = q
-all-trans [] (y ∷ ys) [] p q = let z : _≡_ {A = ℕ} 0 1 = cc in absurd (omega arith)
+all-trans [] (y ∷ ys) [] p q = zero-one cc
 all-trans [] (y ∷ ys) (z ∷ zs) p q = refl
-all-trans (x ∷ xs) [] zs p q = let z : _≡_ {A = ℕ} 0 1 = cc in absurd (omega arith)
+all-trans (x ∷ xs) [] zs p q = zero-one cc
 all-trans (x ∷ xs) (y ∷ ys) [] p q = q
 all-trans (x ∷ xs) (y ∷ ys) (z ∷ zs) p q =
     go (then-less (compare x y) (compare-all xs ys) p) (then-less (compare y z) (compare-all ys zs) q) (λ e f. all-trans xs ys zs e f)

@@ -46,6 +46,12 @@ lt-or x y = go (decLt x y)
     go (yes h) = inl h
     go (no n) = inr (omega arith)
 
+-- ---- two constructors of one type
+
+-- they differ: from an equation between two of them `cc` draws this one
+pub zero-one {ℓ} : {A : Type ℓ} → _≡_ {A = ℕ} 0 1 → A
+zero-one e = absurd (omega arith)
+
 -- ---- a function that answers a bool
 
 -- r says whether P holds
@@ -54,7 +60,7 @@ pub record Says (r : Bool) (P : Type 0) : Type 0 where
   pub fails : r ≡ false → P → ⊥
 
 pub says-yes : {P : Type 0} → P → Says true P
-says-yes p = record { holds = λ e. p; fails = λ (e : true ≡ false) q. let z : _≡_ {A = ℕ} 0 1 = cc in omega arith }
+says-yes p = record { holds = λ e. p; fails = λ (e : true ≡ false) q. zero-one cc }
 
 pub says-no : {P : Type 0} → (P → ⊥) → Says false P
-says-no n = record { holds = λ (e : false ≡ true). let z : _≡_ {A = ℕ} 0 1 = cc in absurd (omega arith); fails = λ e p. n p }
+says-no n = record { holds = λ (e : false ≡ true). zero-one cc; fails = λ e p. n p }

@@ -9,6 +9,7 @@ use lib.ListN.{length, take}
 use lib.Seq.{length-take-le}
 use Rattle.lists.specs.Reads.{at}
 use Rattle.lists.specs.Reads.{reverse-last}
+use Rattle.lists.specs.Tests.{zero-one}
 use Rattle.pending.specs.Stack.{Entries, Stack, stretched, stack-frame, stack-determined}
 use Rattle.pending.specs.Stands.{Stands, none, one, many, stands-map, stands-stretched, total, stands-length, total-le, stands-determined}
 use Rattle.pending.specs.Promise.{Pushes, PushesStretch, Tops}
@@ -67,8 +68,7 @@ module _ {S : ℕ → ℕ → List ℕ → Type 0} where
           record { left = js; all = ap (λ (z : ℕ). z ∷ js) q; rest = record { entries = es; size = omega arith; stack = s .2; stands = u } }
       go (x ∷ es) is l s (many {c = c} {k = k} h u) =
           let f = sym (t .law c (suc k) es (omega arith) s) ∙ e in
-          let z : _≡_ {A = ℕ} 0 1 = cc in
-          absurd (omega arith)
+          zero-one cc
 
   pub top-stretch : {ps : List ℕ} {d c k : ℕ} {r : OnTop} {is : List ℕ} → Pending S ps d is → 0 < d → Tops ps d r → r ≡ TopMany c k → Stretch-on S ps (d - 1) c k is
   top-stretch {ps} {d} {c} {k} {r} {is} p some t e = go (p .entries) is (p .size) (p .stack) (p .stands)
@@ -77,8 +77,7 @@ module _ {S : ℕ → ℕ → List ℕ → Type 0} where
       go [] is l s none = absurd (omega arith)
       go (x ∷ es) is l s (one {i = j} u) =
           let f = sym (t .law j 0 es (omega arith) s) ∙ e in
-          let z : _≡_ {A = ℕ} 0 1 = cc in
-          absurd (omega arith)
+          zero-one cc
       go (x ∷ es) is l s (many {c = b} {k = j} {xs = xs} {is = js} h u) =
           let f = sym (t .law b (suc j) es (omega arith) s) ∙ e in
           let bc : b ≡ c = cc f in

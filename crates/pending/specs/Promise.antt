@@ -9,6 +9,7 @@ use native.Mathlib.Omega.{arith}
 use lib.ListN.{length}
 use Rattle.lists.specs.Reads.{at}
 use Rattle.lists.specs.Stores.{puts-length, puts-miss}
+use Rattle.lists.specs.Tests.{zero-one}
 use Rattle.pending.specs.Stack.{Entries, Stack, pushed, stretched, stack-push}
 use Rattle.pending.specs.declared.OnTop.{OnTop}
 use Rattle.pending.specs.declared.OnTop.the-variants.{TopOne, TopMany}
@@ -86,10 +87,10 @@ stretch-some ps d c (suc k) ps′ n p = record {
 
 shown-one : (x k y : ℕ) → shown x k ≡ TopOne y → x ≡ y
 shown-one x zero y e = cc
-shown-one x (suc k) y e = let z : _≡_ {A = ℕ} 0 1 = cc in absurd (omega arith)
+shown-one x (suc k) y e = zero-one cc
 
 shown-many : (x k c n : ℕ) → shown x k ≡ TopMany c n → (x ≡ c) × (k ≡ n) × (0 < k)
-shown-many x zero c n e = let z : _≡_ {A = ℕ} 0 1 = cc in absurd (omega arith)
+shown-many x zero c n e = zero-one cc
 shown-many x (suc k) c n e = (cc, cc, omega arith)
 
 tops : (ps : List ℕ) (d x k : ℕ) (r : OnTop) → Loaded ps (d - 1 + (d - 1)) x → Loaded ps (d - 1 + (d - 1) + 1) k → r ≡ shown x k → Tops ps d r

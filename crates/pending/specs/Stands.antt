@@ -43,7 +43,7 @@ stands-length size (one s) = omega (arith, stands-length size s)
 stands-length size (many {c = c} {k = k} {xs = xs} {is = is} h s) =
     omega (arith, length-append (reverse xs) is, length-reverse xs, size c (suc k) xs h, stands-length size s)
 
--- a stretch of at most b ids each
+-- where no stretch has more than b ids
 pub stands-le : {S : ℕ → ℕ → List ℕ → Type 0} (b : ℕ) → ((c k : ℕ) (xs : List ℕ) → S c k xs → length xs ≤ b) → {es : Entries} {is : List ℕ} → Stands S es is
     → length is ≤ length es * (b + 1)
 stands-le b low none = omega arith

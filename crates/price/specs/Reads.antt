@@ -6,10 +6,9 @@ use mathlib.Core.Option.{Option, none, some}
 use mathlib.Core.Path.{_∙_, _≡_, ap, refl, sym}
 use Prim.Native.Nat.{suc, zero, ℕ}
 use native.Mathlib.Decide.{ℕ-discrete}
-use native.Mathlib.Omega.{arith}
 use Rattle.lists.specs.Members.{Mem, here, mem-cases, mem-nil, there}
 use Rattle.lists.specs.Options.{none≢some, some-inj}
-use Rattle.lists.specs.Tests.{when, when-no, when-yes}
+use Rattle.lists.specs.Tests.{when, when-no, when-yes, zero-one}
 use Rattle.language.specs.Term.{Term}
 use Rattle.price.specs.Pass.{Best, Table, accept, after, best, better, look, pass, priced, prices, turn, with-price}
 use Rattle.price.specs.Rule.{Each, Rule, same-le}
@@ -37,7 +36,7 @@ module _ {P : Type 0} where
   prices-from t [] (p ∷ ps) e = absurd (nil-cons (some-inj e))
     where
       nil-cons : _≡_ {A = List P} [] (p ∷ ps) → ⊥
-      nil-cons q = let z : _≡_ {A = ℕ} 0 1 = cc in omega arith
+      nil-cons q = zero-one cc
   prices-from t (c ∷ cs) ps e = go (look c t) (prices t cs) ps refl refl e (prices-from t cs)
     where
       go : (o : Option (Best P)) (m : Option (List P)) (qs : List P) → look c t ≡ o → prices t cs ≡ m → with-price o m ≡ some qs
@@ -47,7 +46,7 @@ module _ {P : Type 0} where
       go (some b) (some ss) [] a k e ih = absurd (cons-nil (some-inj e))
         where
           cons-nil : _≡_ {A = List P} (b .price ∷ ss) [] → ⊥
-          cons-nil q = let z : _≡_ {A = ℕ} 0 1 = cc in omega arith
+          cons-nil q = zero-one cc
       go (some b) (some ss) (q ∷ qs) a k e ih = ((b, a, cc e), ih qs (k ∙ ap some (cc e)))
 
 module _ {P : Type 0} (R : Rule P) where

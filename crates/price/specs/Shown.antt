@@ -10,7 +10,7 @@ use native.Mathlib.Omega.{arith}
 use lib.ListN.{length, length-append}
 use Rattle.lists.specs.Members.{Mem, here, mem-cases, mem-nil, there}
 use Rattle.lists.specs.Options.{none≢some, some-inj}
-use Rattle.lists.specs.Tests.{when, when-no, when-yes}
+use Rattle.lists.specs.Tests.{when, when-no, when-yes, zero-one}
 use Rattle.language.specs.Term.{Term}
 use Rattle.steps.specs.Forced.{then}
 use Rattle.steps.specs.Graph.{node}
@@ -103,10 +103,10 @@ mutual
   pub one-forms : (fs gs : Forms) (l : Listing) (ps qs : List ℕ) → ps ≡ qs → In-each (Stands-at l) fs ps → In-each (Stands-at l) gs qs → fs ≡ gs
   one-forms no-form no-form l ps qs e h k = refl
   one-forms no-form (g then gs) l [] [] e h k = absurd k
-  one-forms no-form (g then gs) l [] (q ∷ qs) e h k = absurd (let z : _≡_ {A = ℕ} 0 1 = cc in omega arith)
+  one-forms no-form (g then gs) l [] (q ∷ qs) e h k = zero-one cc
   one-forms no-form (g then gs) l (p ∷ ps) qs e h k = absurd h
   one-forms (f then fs) no-form l [] qs e h k = absurd h
-  one-forms (f then fs) no-form l (p ∷ ps) [] e h k = absurd (let z : _≡_ {A = ℕ} 0 1 = cc in omega arith)
+  one-forms (f then fs) no-form l (p ∷ ps) [] e h k = zero-one cc
   one-forms (f then fs) no-form l (p ∷ ps) (q ∷ qs) e h k = absurd k
   one-forms (f then fs) (g then gs) l [] qs e h k = absurd h
   one-forms (f then fs) (g then gs) l (p ∷ ps) [] e h k = absurd k

@@ -12,7 +12,7 @@ use lib.ListN.{drop, length}
 use lib.Seq.{drop-cons, drop-length}
 use Rattle.lists.specs.Members.{mem-at}
 use Rattle.lists.specs.Reads.{at}
-use Rattle.lists.specs.Tests.{when-no, when-yes}
+use Rattle.lists.specs.Tests.{when-no, when-yes, zero-one}
 use Rattle.language.specs.Struct.{nodeOf}
 use Rattle.language.specs.Term.{Term}
 use Rattle.steps.specs.Classes.{class-nodes}
@@ -98,7 +98,7 @@ pub record Betters (h : Head) (id : ℕ) (b : Entry) (v : View) (r : Chosen) : T
       → (e : Entry) × (r ≡ ChosenIs e) × Means g e (better-of t (key-of g id) o)
 
 broken-is : {A : Type 0} (e : Entry) → ChosenBroken ≡ ChosenIs e → A
-broken-is e q = let z : _≡_ {A = ℕ} 0 1 = cc in absurd (omega arith)
+broken-is e q = zero-one cc
 
 module _ (h : Head) (id : ℕ) (b : Entry) (v : View) (f : Fetched) (F : Key (v .rows) (h .n) (h .m) id f) where
   -- the key of an id that is there
@@ -109,7 +109,7 @@ module _ (h : Head) (id : ℕ) (b : Entry) (v : View) (f : Fetched) (F : Key (v 
   better-unread o w q = record { low = λ e p. broken-is e p; law = λ g t o C P lt M. absurd (apart (read g C lt .0)) }
     where
       apart : f .out ≡ FetchDone → ⊥
-      apart d = let z : _≡_ {A = ℕ} 0 1 = cc in omega arith
+      apart d = zero-one cc
 
   module _ (c : NodeCost) (N : CostsNode (h .n) (h .ids) (v .scratch) (nodeOf (f .node)) c) where
     -- the price of the node, as the table gives it
@@ -126,8 +126,8 @@ module _ (h : Head) (id : ℕ) (b : Entry) (v : View) (f : Fetched) (F : Key (v 
     }
       where
         apart : (o : Option ℕ) → NodeCostBroken ≡ told o → ⊥
-        apart none e = let z : _≡_ {A = ℕ} 0 1 = cc in omega arith
-        apart (some p) e = let z : _≡_ {A = ℕ} 0 1 = cc in omega arith
+        apart none e = zero-one cc
+        apart (some p) e = zero-one cc
 
     pub better-none : b .mark ≤ h .n → c ≡ NodeCostNone → Betters h id b v (ChosenIs b)
     unfolding better
@@ -138,7 +138,7 @@ module _ (h : Head) (id : ℕ) (b : Entry) (v : View) (f : Fetched) (F : Key (v 
       where
         go : (g : Graph) (x : Term) (o : Option (Best ℕ)) (p : Option ℕ) → NodeCostNone ≡ told p → Means g b o → Means g b (better AstSize x p o)
         go g x o none e M = M
-        go g x o (some p) e M = let z : _≡_ {A = ℕ} 0 1 = cc in absurd (omega arith)
+        go g x o (some p) e M = zero-one cc
 
     pub better-priced : (p : ℕ) (r : Entry) → id < h .n → b .mark ≤ h .n → c ≡ NodeCostIs p → Chooses b p id r → Betters h id b v (ChosenIs r)
     better-priced p r li lo q K = record {
@@ -147,7 +147,7 @@ module _ (h : Head) (id : ℕ) (b : Entry) (v : View) (f : Fetched) (F : Key (v 
     }
       where
         go : (g : Graph) (o : Option (Best ℕ)) → id < ids g → (m : Option ℕ) → NodeCostIs p ≡ told m → Means g b o → Means g r (better AstSize (key-of g id) m o)
-        go g o l none e M = let z : _≡_ {A = ℕ} 0 1 = cc in absurd (omega arith)
+        go g o l none e M = zero-one cc
         go g o l (some k) e M = let z : p ≡ k = cc in rw (← z) (K .law g o l M)
 
 -- ---- all nodes of a class

@@ -12,7 +12,7 @@ use native.Mathlib.Omega.{arith}
 use lib.ListN.{length}
 use Rattle.lists.specs.Reads.{at}
 use Rattle.lists.specs.Stores.{puts-miss}
-use Rattle.lists.specs.Tests.{when-no, when-yes}
+use Rattle.lists.specs.Tests.{when-no, when-yes, zero-one}
 use Rattle.steps.specs.Classes.{class-nodes}
 use Rattle.steps.specs.Graph.{Graph}
 use Rattle.layout.specs.Cut.{need, scratch}
@@ -44,7 +44,7 @@ pub record Accepts (old new : Entry) (b : Bool) : Type 0 where
   pub no-law : b ≡ false → (g : Graph) (o p : Option (Best ℕ)) → Means g old o → Means g new p → (r : ℕ) (t : Table ℕ) → accept AstSize r o p t ≡ t
 
 true-false : {A : Type 0} → _≡_ {A = Bool} true false → A
-true-false e = let z : _≡_ {A = ℕ} 0 1 = cc in absurd (omega arith)
+true-false e = zero-one cc
 
 module _ (old new : Entry) where
   pub accept-nothing : new .mark ≡ 0 → Accepts old new false
@@ -116,7 +116,7 @@ pub record Turns (h : Head) (a : ℕ) (ws : List ℕ) (r : Taken) (ws′ : List 
       → Took g (h .n) (view (h .n) (h .m) ws′ .scratch) t (turn AstSize (class-nodes g) a t) r
 
 pub taken-broken : {A : Type 0} (k : ℕ) → TakenBroken ≡ TakenIs k → A
-taken-broken k e = let z : _≡_ {A = ℕ} 0 1 = cc in absurd (omega arith)
+taken-broken k e = zero-one cc
 
 module _ (h : Head) (a : ℕ) (ws : List ℕ) (c : Chosen) (B : BestOf h a (view (h .n) (h .m) ws) c) where
   pub turn-broken : c ≡ ChosenBroken → Turns h a ws TakenBroken ws
@@ -127,7 +127,7 @@ module _ (h : Head) (a : ℕ) (ws : List ℕ) (c : Chosen) (B : BestOf h a (view
   }
     where
       apart : (x : Entry) → ChosenBroken ≡ ChosenIs x → ⊥
-      apart x p = let z : _≡_ {A = ℕ} 0 1 = cc in omega arith
+      apart x p = zero-one cc
 
   module _ (new old : Entry) (is : c ≡ ChosenIs new) (ha : a < h .n) (E : EntryAt (h .n) (view (h .n) (h .m) ws .scratch) a old) (b : Bool) (A : Accepts old new b) where
     -- the entry and what is proposed, as the table has them

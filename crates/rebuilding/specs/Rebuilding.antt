@@ -5,8 +5,8 @@ use mathlib.Core.Bool.{true}
 use mathlib.Core.List.{List}
 use mathlib.Core.Path.{_∙_, _≡_, ap, subst, sym}
 use Prim.Native.Nat.{ℕ}
-use native.Mathlib.Omega.{arith}
 use lib.ListN.{length}
+use Rattle.lists.specs.Tests.{zero-one}
 use Rattle.steps.specs.Graph.{Graph}
 use Rattle.steps.specs.Machine.{Rebuild, marked}
 use Rattle.cells.specs.Changes.{change-apart}
@@ -40,7 +40,7 @@ module _ (h : Head) (ws ws1 : List ℕ) (c : Change) (C : RechildsAll h ws c ws1
   pub finish-broken : c ≡ ChangeBroken → FinishSays h ws SteppedBroken ws1
   finish-broken e = record {
     inside = C .inside;
-    range = λ k f. let z : _≡_ {A = ℕ} 0 1 = cc in absurd (omega arith);
+    range = λ k f. zero-one cc;
     sound = λ g u H F. absurd (change-apart c e (C .sound g u H F .0));
   }
 
@@ -78,7 +78,7 @@ pub record RebuildSays (h : Head) (ws : List ℕ) (r : Drained) (ws′ : List �
   pub sound : (g : Graph) (u : ℕ) (us : List (ℕ × ℕ)) → HoldsAt h u (view (h .n) (h .m) ws) g → Startable us g → Rebuilt u g (view (h .n) (h .m) ws′) r
 
 never-drained : {A : Type 0} (k : Head) (y t : ℕ) → DrainedBroken ≡ DrainedTo k y t → A
-never-drained k y t e = let z : _≡_ {A = ℕ} 0 1 = cc in absurd (omega arith)
+never-drained k y t e = zero-one cc
 
 fit : {us : List (ℕ × ℕ)} {g : Graph} → Startable us g → Fit g
 fit S = record { kids = S .good .shape .kids-lt; keyed = S .keyed }
@@ -123,7 +123,7 @@ module _ (h : Head) (ws ws1 : List ℕ) (d : Drained) (D : DrainsAll h ws d ws1)
       rebuild-torn f = record {
         inside = inside2;
         range = λ s a b q. never-drained s a b q;
-        sound = λ g u us H S. let p = ended g u us H S .0 in let z : _≡_ {A = ℕ} 0 1 = cc in absurd (omega arith);
+        sound = λ g u us H S. let p = ended g u us H S .0 in zero-one cc;
       }
 
       pub rebuild-done : (s : Head) → r ≡ SteppedTo s → RebuildSays h ws (DrainedTo s y t) ws2

@@ -9,7 +9,7 @@ use Prim.Native.Nat.{_<_, ℕ}
 use native.Mathlib.Omega.{arith}
 use lib.Seq.{getD-set-other, getD-set-same}
 use Rattle.lists.specs.Members.{Mem}
-use Rattle.lists.specs.Tests.{Says, eq-or}
+use Rattle.lists.specs.Tests.{Says, eq-or, zero-one}
 use Rattle.language.specs.Struct.{nodeOf}
 use Rattle.language.specs.Term.{Term, term-at}
 use Rattle.steps.specs.Graph.{Graph, ids, key-of, node}
@@ -113,7 +113,7 @@ module _ (h : Head) (i : ℕ) (k : Term) (ws ws1 : List ℕ) (d : Change) (L : V
     pub renew-torn : q ≡ RekeyBroken → RenewSays h i k ws ChangeBroken ws2
     renew-torn e = record {
       inside = inside-then (L .inside) (inside-lent (λ v l. refl) K);
-      sound = λ g u H F low key stale. let f = both g u H F low key stale .0 in let z : _≡_ {A = ℕ} 0 1 = cc in absurd (omega arith);
+      sound = λ g u H F low key stale. let f = both g u H F low key stale .0 in zero-one cc;
     }
 
     pub renew-done : RenewSays h i k ws ChangeDone ws2
@@ -128,7 +128,7 @@ module _ (h : Head) (i : ℕ) (ws : List ℕ) (f : Rooted) (F : FreshSays h i ws
   pub rechild-lost : f .out ≡ RootingBroken → RechildSays h i ws ChangeBroken ws
   rechild-lost e = record {
     inside = inside-same (h .n) (h .m) ws;
-    sound = λ g u H T low. let q = F .sound g u H low (λ c. T .kids i c low) .0 in let z : _≡_ {A = ℕ} 0 1 = cc in absurd (omega arith);
+    sound = λ g u H T low. let q = F .sound g u H low (λ c. T .kids i c low) .0 in zero-one cc;
   }
 
   module _ (w : Fetched) (W : Key (view (h .n) (h .m) ws .rows) (h .n) (h .m) i w) (b : Bool) (S : Says b (nodeOf (w .node) ≡ nodeOf (f .node))) where

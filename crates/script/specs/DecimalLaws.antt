@@ -10,6 +10,7 @@ use native.Mathlib.Omega.{arith}
 use lib.Dec.{ltb, lit≤}
 use lib.ListN.{length, getD, length-append, List·getD-append}
 use borrow.Author.Tests.{lt-ltb, le-ltb, eq-eqb, ne-eqb}
+use Rattle.lists.specs.Tests.{zero-one}
 use Rattle.io.specs.Digits.{digits, glyph, Fewest}
 use Rattle.script.specs.Decimal.{digitOf, digitsOf, small, numberOf, decimal, decimal-in}
 use Rattle.script.specs.FieldsLaws.{number-one, number-more}
@@ -104,7 +105,7 @@ means [] acc n e = let q : acc ≡ n = cc in record { low = 0; below = lit≤ tt
 means (b ∷ s) acc n e = go (decLt (digitOf b) 10) (λ (w : digitsOf (acc * 10 + digitOf b) s ≡ NumIs n). means s (acc * 10 + digitOf b) n w)
   where
     go : Dec (digitOf b < 10) → (digitsOf (acc * 10 + digitOf b) s ≡ NumIs n → Read s (acc * 10 + digitOf b) n) → Read (b ∷ s) acc n
-    go (no h) ih = let z : NumNot ≡ NumIs n = rw (le-ltb (digitOf b) 10 (omega (arith, h))) at e in let y : _≡_ {A = ℕ} 0 1 = cc z in absurd (omega arith)
+    go (no h) ih = let z : NumNot ≡ NumIs n = rw (le-ltb (digitOf b) 10 (omega (arith, h))) at e in zero-one (cc z)
     go (yes h) ih =
         let r = ih (rw (lt-ltb (digitOf b) 10 h) at e) in
         step (digitOf b) (10 ^ length s) h r (pow-suc 10 (length s)) (unglyph b h)
@@ -122,12 +123,12 @@ means (b ∷ s) acc n e = go (decLt (digitOf b) 10) (λ (w : digitsOf (acc * 10 
             }
 
 small-means : (x : Num) (n : ℕ) → small x ≡ NumIs n → (x ≡ NumIs n) × (n < 2 ^ 32)
-small-means NumNot n e = let y : _≡_ {A = ℕ} 0 1 = cc in absurd (omega arith)
+small-means NumNot n e = zero-one cc
 small-means (NumIs m) n e = go (decLt m (2 ^ 32))
   where
     go : Dec (m < 2 ^ 32) → (NumIs m ≡ NumIs n) × (n < 2 ^ 32)
     go (yes h) = let z : NumIs m ≡ NumIs n = rw (lt-ltb m (2 ^ 32) h) at e in let q : m ≡ n = cc z in (z, omega (arith, q, h))
-    go (no h) = let z : NumNot ≡ NumIs n = rw (le-ltb m (2 ^ 32) (omega (arith, h))) at e in let y : _≡_ {A = ℕ} 0 1 = cc z in absurd (omega arith)
+    go (no h) = let z : NumNot ≡ NumIs n = rw (le-ltb m (2 ^ 32) (omega (arith, h))) at e in zero-one (cc z)
 
 -- the text of a number below 2 ^ 32
 pub record Text (s : List ℕ) (n : ℕ) : Type 0 where
@@ -144,7 +145,7 @@ unfolding digitsOf
 tall b s n f e = go (decLt (digitOf b) 10)
   where
     go : Dec (digitOf b < 10) → 10 ^ length s ≤ n
-    go (no h) = let z : NumNot ≡ NumIs n = rw (le-ltb (digitOf b) 10 (omega (arith, h))) at e in let y : _≡_ {A = ℕ} 0 1 = cc z in absurd (omega arith)
+    go (no h) = let z : NumNot ≡ NumIs n = rw (le-ltb (digitOf b) 10 (omega (arith, h))) at e in zero-one (cc z)
     go (yes h) = by-digit (digitOf b) (unglyph b h) (means s (0 * 10 + digitOf b) n (rw (lt-ltb (digitOf b) 10 h) at e))
       where
         by-digit : (d : ℕ) → b ≡ glyph d → Read s (0 * 10 + d) n → 10 ^ length s ≤ n
@@ -155,7 +156,7 @@ tall b s n f e = go (decLt (digitOf b) 10)
 
 read-text : (s : List ℕ) (n : ℕ) → numberOf s ≡ NumIs n → Text s n
 unfolding numberOf
-read-text [] n e = let y : _≡_ {A = ℕ} 0 1 = cc in absurd (omega arith)
+read-text [] n e = zero-one cc
 read-text (b ∷ []) n e =
     let p = small-means (digitsOf 0 (b ∷ [])) n e in
     let q = spelt-of (b ∷ []) n (means (b ∷ []) 0 n (p .0)) in
@@ -163,7 +164,7 @@ read-text (b ∷ []) n e =
 read-text (b ∷ c ∷ s) n e = go (ℕ-discrete b 48)
   where
     go : Dec (b ≡ 48) → Text (b ∷ c ∷ s) n
-    go (yes h) = let z : NumNot ≡ NumIs n = rw (eq-eqb b 48 h) at e in let y : _≡_ {A = ℕ} 0 1 = cc z in absurd (omega arith)
+    go (yes h) = let z : NumNot ≡ NumIs n = rw (eq-eqb b 48 h) at e in zero-one (cc z)
     go (no h) =
         let p = small-means (digitsOf 0 (b ∷ c ∷ s)) n (rw (ne-eqb b 48 h) at e) in
         let q = spelt-of (b ∷ c ∷ s) n (means (b ∷ c ∷ s) 0 n (p .0)) in

@@ -11,6 +11,7 @@ use lib.Dec.{ltb, eqb}
 use lib.ListN.{length, getD, take, drop, set, length-drop, length-set, length-append, length-take}
 use lib.Seq.{take-all, take-suc-set, length-take-le}
 use borrow.Author.Tests.{eq-eqb, ne-eqb, lt-ltb, le-ltb}
+use Rattle.lists.specs.Tests.{zero-one}
 use Rattle.script.specs.Decimal.{digitOf, digitsOf, small, numberOf}
 use Rattle.script.specs.Fields.{fieldsOf, onto, Nums, nope, all, with-first, numbersOf, Sought, NumbersSay}
 use Rattle.script.specs.declared.Num.{Num}
@@ -122,7 +123,7 @@ after-more xs v nope = refl
 after-more xs v (all ys) = rw (append-assoc xs (v ∷ []) ys) refl
 
 not-all : (ns : List ℕ) → nope ≡ all ns → ⊥
-not-all ns e = let z : _≡_ {A = ℕ} 0 1 = cc in omega arith
+not-all ns e = zero-one cc
 
 -- the first field is no number
 first-not : (t : List ℕ) (e : ℕ) → Sought t 32 e → numberOf (take e t) ≡ NumNot → numbersOf (fieldsOf t) ≡ nope

@@ -11,6 +11,7 @@ use lib.Dec.{leb, eqb, lit≤}
 use lib.ListN.{length, getD, take}
 use lib.Seq.{length-take-le}
 use borrow.Author.Tests.{eqb-true, eq-eqb, ne-eqb, lt-ltb, le-ltb, leb-true, le-leb, lt-leb}
+use Rattle.lists.specs.Tests.{zero-one}
 use Rattle.script.specs.Fields.{fieldsOf, Nums, nope, all, numbersOf, Sought, NumbersSay}
 use Rattle.script.specs.FieldsLaws.{rest, fields-cut, fields-last}
 use Rattle.script.specs.Verbs.{same, shape, Entry, chosen, changesTable, readsTable, countsTable, verbOf}
@@ -47,7 +48,7 @@ is-no w n x y h = go (same w n) refl
     go false e = refl
 
 pub not-both : (b : Bool) → b ≡ true → b ≡ false → ⊥
-not-both b p q = let z : _≡_ {A = ℕ} 0 1 = cc in omega arith
+not-both b p q = zero-one cc
 
 -- ---- a whole line
 

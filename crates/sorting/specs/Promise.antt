@@ -10,6 +10,7 @@ use Rattle.lists.specs.Reads.{at}
 use Rattle.language.specs.Sorted.{sorted}
 use Rattle.rows.specs.Rows.{size}
 use Rattle.lists.specs.Parts.{take-same}
+use Rattle.lists.specs.Tests.{zero-one}
 use Rattle.sorting.specs.Ids.{Below, below-from, key-of}
 use Rattle.sorting.specs.Keyed.{arranged-keys}
 use Rattle.sorting.specs.Run.{Area, Ran}
@@ -39,7 +40,7 @@ module _ (ws : List ℕ) (n m k : ℕ) where
     rows = refl;
     ids = λ h. absurd (f (record { each = h }));
     no-id = λ p h g. refl;
-    done = λ d (e : SortedBroken ≡ SortedTo d). let z : _≡_ {A = ℕ} 0 1 = cc in absurd (omega arith);
+    done = λ d (e : SortedBroken ≡ SortedTo d). zero-one cc;
     broken = λ e. refl;
   }
 
@@ -66,5 +67,5 @@ module _ (ws : List ℕ) (n m k : ℕ) where
       ids = λ h. (d, refl);
       no-id = λ p h g. absurd (omega (arith, A .ids .each p h));
       done = λ e (q : SortedTo d ≡ SortedTo e). let i : d ≡ e = cc in rw (← i) run-done;
-      broken = λ (e : SortedTo d ≡ SortedBroken). let z : _≡_ {A = ℕ} 0 1 = cc in absurd (omega arith);
+      broken = λ (e : SortedTo d ≡ SortedBroken). zero-one cc;
     }

@@ -7,7 +7,7 @@ use Prim.Native.Nat.{_-_, _<_, _≤_, suc, ℕ}
 use native.Mathlib.Omega.{arith}
 use lib.ListN.{length}
 use Rattle.lists.specs.Reads.{at}
-use Rattle.lists.specs.Tests.{lt-or}
+use Rattle.lists.specs.Tests.{lt-or, zero-one}
 use Rattle.language.specs.Term.{Term, term-at}
 use Rattle.cells.specs.Cuts.{Removed}
 use Rattle.cells.specs.Free.{free-removed}
@@ -112,8 +112,8 @@ module _ (ts ts′ : List ℕ) (n a x : ℕ) (r : Cut) (ha : a < n) (p : Removed
     sound-out e = go (held-or ts n ks L t x)
       where
         go : Held L x ⊎ (Held L x → ⊥) → ⊥
-        go (inl h) = let f = held-out h .0 in let z : _≡_ {A = ℕ} 0 1 = cc in omega arith
-        go (inr g) = let f = absent-out g .0 in let z : _≡_ {A = ℕ} 0 1 = cc in omega arith
+        go (inl h) = let f = held-out h .0 in zero-one cc
+        go (inr g) = let f = absent-out g .0 in zero-one cc
 
   pub departed : Departed ts ts′ n a x r
   departed = record {

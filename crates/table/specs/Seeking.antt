@@ -6,6 +6,7 @@ use Prim.Native.Nat.{_+_, _-_, _<_, _≤_, ℕ}
 use native.Mathlib.Omega.{arith}
 use lib.ListN.{length}
 use Rattle.lists.specs.Reads.{at}
+use Rattle.lists.specs.Tests.{zero-one}
 use Rattle.language.specs.Term.{Term}
 use Rattle.language.specs.declared.Id.{Id}
 use Rattle.cells.specs.Cursor.{Cursor, Passed, cursor-low, length-low}
@@ -26,23 +27,23 @@ pub record Compares (rows : List ℕ) (n m i : ℕ) (t : Term) (r : Compared) : 
 module _ (rows : List ℕ) (n m i : ℕ) (t : Term) where
   pub compare-broken : (Sane rows n m i → ⊥) → Compares rows n m i t ComparedBroken
   compare-broken f = record {
-    same = λ (e : ComparedBroken ≡ ComparedSame). let z : _≡_ {A = ℕ} 0 1 = cc in absurd (omega arith);
-    other = λ (e : ComparedBroken ≡ ComparedOther). let z : _≡_ {A = ℕ} 0 1 = cc in absurd (omega arith);
+    same = λ (e : ComparedBroken ≡ ComparedSame). zero-one cc;
+    other = λ (e : ComparedBroken ≡ ComparedOther). zero-one cc;
     broken = λ _. f;
   }
 
   pub compare-same : key-read rows n m i ≡ t → Compares rows n m i t ComparedSame
   compare-same f = record {
     same = λ _. f;
-    other = λ (e : ComparedSame ≡ ComparedOther). let z : _≡_ {A = ℕ} 0 1 = cc in absurd (omega arith);
-    broken = λ (e : ComparedSame ≡ ComparedBroken). let z : _≡_ {A = ℕ} 0 1 = cc in absurd (omega arith);
+    other = λ (e : ComparedSame ≡ ComparedOther). zero-one cc;
+    broken = λ (e : ComparedSame ≡ ComparedBroken). zero-one cc;
   }
 
   pub compare-other : (key-read rows n m i ≡ t → ⊥) → Compares rows n m i t ComparedOther
   compare-other f = record {
-    same = λ (e : ComparedOther ≡ ComparedSame). let z : _≡_ {A = ℕ} 0 1 = cc in absurd (omega arith);
+    same = λ (e : ComparedOther ≡ ComparedSame). zero-one cc;
     other = λ _. f;
-    broken = λ (e : ComparedOther ≡ ComparedBroken). let z : _≡_ {A = ℕ} 0 1 = cc in absurd (omega arith);
+    broken = λ (e : ComparedOther ≡ ComparedBroken). zero-one cc;
   }
 
 -- ---- bucket a
@@ -57,10 +58,10 @@ pub record Sought (ts rows : List ℕ) (n m a : ℕ) (t : Term) (r : Asked) : Ty
 module _ (ts rows : List ℕ) (n m a : ℕ) (t : Term) where
   sought-broken : ((L : List (List ℕ)) → Pool ts n n L → ((i : ℕ) → i < length (row L a) → Sane rows n m (at (row L a) i)) → ⊥) → Sought ts rows n m a t AskedBroken
   sought-broken bad = record {
-    inside = λ x (e : AskedBroken ≡ AskedAt x). let z : _≡_ {A = ℕ} 0 1 = cc in absurd (omega arith);
-    key = λ x (e : AskedBroken ≡ AskedAt x). let z : _≡_ {A = ℕ} 0 1 = cc in absurd (omega arith);
-    found = λ x (e : AskedBroken ≡ AskedAt x). let z : _≡_ {A = ℕ} 0 1 = cc in absurd (omega arith);
-    none = λ (e : AskedBroken ≡ AskedNone). let z : _≡_ {A = ℕ} 0 1 = cc in absurd (omega arith);
+    inside = λ x (e : AskedBroken ≡ AskedAt x). zero-one cc;
+    key = λ x (e : AskedBroken ≡ AskedAt x). zero-one cc;
+    found = λ x (e : AskedBroken ≡ AskedAt x). zero-one cc;
+    none = λ (e : AskedBroken ≡ AskedNone). zero-one cc;
     broken = λ _. bad;
   }
 
@@ -72,11 +73,11 @@ module _ (ts rows : List ℕ) (n m a : ℕ) (t : Term) where
     module _ (left cur : ℕ) (c : Cursor ts n n a left cur) (g : Passed ts n n a left (λ x. key-read rows n m x ≡ t)) where
       pub sought-end : left ≤ 0 → Sought ts rows n m a t AskedNone
       sought-end h = record {
-        inside = λ x (e : AskedNone ≡ AskedAt x). let z : _≡_ {A = ℕ} 0 1 = cc in absurd (omega arith);
-        key = λ x (e : AskedNone ≡ AskedAt x). let z : _≡_ {A = ℕ} 0 1 = cc in absurd (omega arith);
-        found = λ x (e : AskedNone ≡ AskedAt x). let z : _≡_ {A = ℕ} 0 1 = cc in absurd (omega arith);
+        inside = λ x (e : AskedNone ≡ AskedAt x). zero-one cc;
+        key = λ x (e : AskedNone ≡ AskedAt x). zero-one cc;
+        found = λ x (e : AskedNone ≡ AskedAt x). zero-one cc;
         none = λ _ L p i l. g .none L p i (omega arith) l;
-        broken = λ (e : AskedNone ≡ AskedBroken). let z : _≡_ {A = ℕ} 0 1 = cc in absurd (omega arith);
+        broken = λ (e : AskedNone ≡ AskedBroken). zero-one cc;
       }
 
       module _ (some : 0 < left) where
@@ -97,6 +98,6 @@ module _ (ts rows : List ℕ) (n m a : ℕ) (t : Term) where
                 inside = omega (arith, c .short L p);
                 here = sym (c .cell L p (left - 1) (omega arith)) ∙ sym w ∙ ap (λ (i : Id). i .0) z;
               };
-          none = λ (e : AskedAt x ≡ AskedNone). let z : _≡_ {A = ℕ} 0 1 = cc in absurd (omega arith);
-          broken = λ (e : AskedAt x ≡ AskedBroken). let z : _≡_ {A = ℕ} 0 1 = cc in absurd (omega arith);
+          none = λ (e : AskedAt x ≡ AskedNone). zero-one cc;
+          broken = λ (e : AskedAt x ≡ AskedBroken). zero-one cc;
         }

@@ -5,8 +5,8 @@ use mathlib.Core.List.{List}
 use mathlib.Core.Option.{Option, none, some}
 use mathlib.Core.Path.{_∙_, _≡_, ap, refl, subst, sym}
 use Prim.Native.Nat.{_<_, ℕ}
-use native.Mathlib.Omega.{arith}
 use lib.ListN.{length}
+use Rattle.lists.specs.Tests.{zero-one}
 use Rattle.steps.specs.Graph.{Graph, kept, key-of}
 use Rattle.steps.specs.Machine.{Joined, close, keyed}
 use Rattle.holds.specs.Holds.{HoldsAt}
@@ -49,41 +49,41 @@ close-none g i = refl
 
 was-new : (o : Option ℕ) → RekeyedNew ≡ was o → o ≡ none
 was-new none e = refl
-was-new (some j) e = let z : _≡_ {A = ℕ} 0 1 = cc in absurd (omega arith)
+was-new (some j) e = zero-one cc
 
 was-from : (x : ℕ) (o : Option ℕ) → RekeyedFrom x ≡ was o → o ≡ some x
-was-from x none e = let z : _≡_ {A = ℕ} 0 1 = cc in absurd (omega arith)
+was-from x none e = zero-one cc
 was-from x (some j) e = let z : j ≡ x = cc in ap some z
 
 was-broken : {A : Type 0} (o : Option ℕ) → RekeyedBroken ≡ was o → A
-was-broken none e = let z : _≡_ {A = ℕ} 0 1 = cc in absurd (omega arith)
-was-broken (some j) e = let z : _≡_ {A = ℕ} 0 1 = cc in absurd (omega arith)
+was-broken none e = zero-one cc
+was-broken (some j) e = zero-one cc
 
 told-broken : {A : Type 0} (b : Bool) (k : Head) → UnitedBroken ≡ told b k → A
-told-broken true k e = let z : _≡_ {A = ℕ} 0 1 = cc in absurd (omega arith)
-told-broken false k e = let z : _≡_ {A = ℕ} 0 1 = cc in absurd (omega arith)
+told-broken true k e = zero-one cc
+told-broken false k e = zero-one cc
 
 told-yes : (b : Bool) (k s : Head) → UnitedYes s ≡ told b k → ClosedYes s ≡ closed b k
 told-yes true k s e = let z : s ≡ k = cc in ap ClosedYes z
-told-yes false k s e = let z : _≡_ {A = ℕ} 0 1 = cc in absurd (omega arith)
+told-yes false k s e = zero-one cc
 
 told-no : (b : Bool) (k s : Head) → UnitedNo s ≡ told b k → ClosedNo s ≡ closed b k
-told-no true k s e = let z : _≡_ {A = ℕ} 0 1 = cc in absurd (omega arith)
+told-no true k s e = zero-one cc
 told-no false k s e = let z : s ≡ k = cc in ap ClosedNo z
 
 module _ (h : Head) (i : ℕ) (ws ws1 : List ℕ) (ok : HeadOk (length ws) h) (r1 : Rekeyed) (K : RekeySays h i ws r1 ws1) where
   pub close-broken : r1 ≡ RekeyedBroken → CloseSays h i ws ClosedBroken ws1
   close-broken e = record {
     inside = K .inside;
-    range-yes = λ k q. let z : _≡_ {A = ℕ} 0 1 = cc in absurd (omega arith);
-    range-no = λ k q. let z : _≡_ {A = ℕ} 0 1 = cc in absurd (omega arith);
+    range-yes = λ k q. zero-one cc;
+    range-no = λ k q. zero-one cc;
     sound = λ g u H R. was-broken (kept (key-of g i) (g .memo)) (sym e ∙ K .sound g u H R .0);
   }
 
   pub close-new : r1 ≡ RekeyedNew → CloseSays h i ws (ClosedNo h) ws1
   close-new e = record {
     inside = K .inside;
-    range-yes = λ k q. let z : _≡_ {A = ℕ} 0 1 = cc in absurd (omega arith);
+    range-yes = λ k q. zero-one cc;
     range-no = λ k q. let z : h ≡ k = cc in subst (λ (s : Head). NearIds (length ws) h s) z (near-same (length ws) h ok);
     sound = λ g u H R.
         let s = K .sound g u H R in
@@ -110,15 +110,15 @@ module _ (h : Head) (i : ℕ) (ws ws1 : List ℕ) (ok : HeadOk (length ws) h) (r
       pub close-torn : r2 ≡ UnitedBroken → CloseSays h i ws ClosedBroken ws2
       close-torn f = record {
         inside = inside-then (K .inside) (U .inside);
-        range-yes = λ k q. let z : _≡_ {A = ℕ} 0 1 = cc in absurd (omega arith);
-        range-no = λ k q. let z : _≡_ {A = ℕ} 0 1 = cc in absurd (omega arith);
+        range-yes = λ k q. zero-one cc;
+        range-no = λ k q. zero-one cc;
         sound = λ g u H R. let j = joined g u H R in told-broken (closing g i .answer) (j .0) (sym f ∙ j .1);
       }
 
       pub close-no : (s : Head) → r2 ≡ UnitedNo s → CloseSays h i ws (ClosedNo s) ws2
       close-no s f = record {
         inside = inside-then (K .inside) (U .inside);
-        range-yes = λ k q. let z : _≡_ {A = ℕ} 0 1 = cc in absurd (omega arith);
+        range-yes = λ k q. zero-one cc;
         range-no = λ k q. let z : s ≡ k = cc in subst (λ (n : ℕ). NearIds n h k) (K .inside .size) (U .range-no k (f ∙ ap UnitedNo z));
         sound = λ g u H R. let j = joined g u H R in (j .0, told-no (closing g i .answer) (j .0) s (sym f ∙ j .1), j .2);
       }
@@ -127,6 +127,6 @@ module _ (h : Head) (i : ℕ) (ws ws1 : List ℕ) (ok : HeadOk (length ws) h) (r
       close-yes s f = record {
         inside = inside-then (K .inside) (U .inside);
         range-yes = λ k q. let z : s ≡ k = cc in subst (λ (n : ℕ). NearIds n h k) (K .inside .size) (U .range-yes k (f ∙ ap UnitedYes z));
-        range-no = λ k q. let z : _≡_ {A = ℕ} 0 1 = cc in absurd (omega arith);
+        range-no = λ k q. zero-one cc;
         sound = λ g u H R. let j = joined g u H R in (j .0, told-yes (closing g i .answer) (j .0) s (sym f ∙ j .1), j .2);
       }

@@ -7,6 +7,7 @@ use mathlib.Core.Path.{_≡_, refl, subst, sym}
 use Prim.Native.Nat.{_+_, _-_, _<_, _≤_, ℕ}
 use native.Mathlib.Omega.{arith}
 use lib.ListN.{length}
+use Rattle.lists.specs.Tests.{zero-one}
 use Rattle.closure.specs.Closed.{step-unclean}
 use Rattle.steps.specs.Graph.{Graph}
 use Rattle.steps.specs.Machine.{Rebuild, count, done, marked, more, step}
@@ -100,7 +101,7 @@ module _ (h : Head) (fuel : ℕ) (ws₀ : List ℕ) (k : Head) (ws : List ℕ) (
   pub drain-spent : left ≡ 0 → DrainSays h fuel ws₀ DrainedBroken ws
   drain-spent e = record {
     inside = G .inside;
-    range = λ s y t q. let z : _≡_ {A = ℕ} 0 1 = cc in absurd (omega arith);
+    range = λ s y t q. zero-one cc;
     sound = λ g u us H S y t z R l. absurd (let r = G .sound g u us H S y t z R l .taken-is in let s = G .spent in omega arith);
   }
 
@@ -119,8 +120,7 @@ module _ (h : Head) (fuel : ℕ) (ws₀ : List ℕ) (k : Head) (ws : List ℕ) (
     at-end us u g z yl tl H S (more ne R) f =
         let s = E .some g u us (seen u g H) (opened S ne) ne in
         let q = s .1 in
-        let z : _≡_ {A = ℕ} 0 1 = cc in
-        absurd (omega arith)
+        zero-one cc
 
     pub drain-done : r ≡ EntryNone → DrainSays h fuel ws₀ (DrainedTo k yes taken) ws1
     drain-done e = record {
@@ -136,17 +136,16 @@ module _ (h : Head) (fuel : ℕ) (ws₀ : List ℕ) (k : Head) (ws : List ℕ) (
 
     -- never broken on words that hold a graph
     answered : {A : Type 0} (us : List (ℕ × ℕ)) (u : ℕ) (g z : Graph) (yl tl : ℕ) → HoldsAt k u (view (h .n) (h .m) ws) g → Startable us g → Rebuild g yl tl z → r ≡ EntryBroken → A
-    answered us u g z yl tl H S (done e) f = let q = E .none g u (seen u g H) e .0 in let z : _≡_ {A = ℕ} 0 1 = cc in absurd (omega arith)
+    answered us u g z yl tl H S (done e) f = let q = E .none g u (seen u g H) e .0 in zero-one cc
     answered us u g z yl tl H S (more ne R) f =
         let s = E .some g u us (seen u g H) (opened S ne) ne in
         let q = s .1 in
-        let z : _≡_ {A = ℕ} 0 1 = cc in
-        absurd (omega arith)
+        zero-one cc
 
     pub drain-broken : r ≡ EntryBroken → DrainSays h fuel ws₀ DrainedBroken ws1
     drain-broken e = record {
       inside = inside1;
-      range = λ s y t q. let z : _≡_ {A = ℕ} 0 1 = cc in absurd (omega arith);
+      range = λ s y t q. zero-one cc;
       sound = λ g u us H S y t z R l.
           let p = G .sound g u us H S y t z R l in
           answered us u (p .graph) z (p .yes-left) (p .left) (p .holds) (p .start) (p .rest) e;
@@ -158,8 +157,7 @@ module _ (h : Head) (fuel : ℕ) (ws₀ : List ℕ) (k : Head) (ws : List ℕ) (
           → yes + yl ≡ y → taken + tl ≡ t → Reached us u z y t s (view (h .n) (h .m) ws1) (yes + d) (taken + 1)
       stepped us u g z y t yl tl H S (done q) ey et =
           let f = E .none g u (seen u g H) q .0 in
-          let z : _≡_ {A = ℕ} 0 1 = cc in
-          absurd (omega arith)
+          zero-one cc
       stepped us u g z y t yl tl H S (more {y = y′} {t = t′} ne R) ey et =
           let O = opened S ne in
           let a = E .some g u us (seen u g H) O ne in

@@ -7,6 +7,7 @@ use mathlib.Core.Path.{_∙_, _≡_, ap, refl, subst, sym}
 use Prim.Native.Nat.{_<_, _≤_, ℕ}
 use native.Mathlib.Omega.{arith}
 use lib.ListN.{length}
+use Rattle.lists.specs.Tests.{zero-one}
 use Rattle.steps.specs.Graph.{Graph, ids}
 use Rattle.steps.specs.Machine.{count, popped, step}
 use Rattle.closure.specs.Invariant.{Good, Same}
@@ -44,15 +45,15 @@ pub record EntrySays (h : Head) (ws : List ℕ) (r : Entry) (ws′ : List ℕ) :
 -- ---- the answers
 
 closed-broken : {A : Type 0} (b : Bool) (k : Head) → ClosedBroken ≡ closed b k → A
-closed-broken true k e = let z : _≡_ {A = ℕ} 0 1 = cc in absurd (omega arith)
-closed-broken false k e = let z : _≡_ {A = ℕ} 0 1 = cc in absurd (omega arith)
+closed-broken true k e = zero-one cc
+closed-broken false k e = zero-one cc
 
 closed-yes : (b : Bool) (k s : Head) → ClosedYes s ≡ closed b k → EntryOne s 1 ≡ EntryOne k (count b)
 closed-yes true k s e = let z : s ≡ k = cc in ap (λ (x : Head). EntryOne x 1) z
-closed-yes false k s e = let z : _≡_ {A = ℕ} 0 1 = cc in absurd (omega arith)
+closed-yes false k s e = zero-one cc
 
 closed-no : (b : Bool) (k s : Head) → ClosedNo s ≡ closed b k → EntryOne s 0 ≡ EntryOne k (count b)
-closed-no true k s e = let z : _≡_ {A = ℕ} 0 1 = cc in absurd (omega arith)
+closed-no true k s e = zero-one cc
 closed-no false k s e = let z : s ≡ k = cc in ap (λ (x : Head). EntryOne x 0) z
 
 module _ (h : Head) (ws ws1 : List ℕ) (r1 : Taken) (T : TakeSays h ws r1 ws1) where
@@ -71,17 +72,17 @@ module _ (h : Head) (ws ws1 : List ℕ) (r1 : Taken) (T : TakeSays h ws r1 ws1) 
   pub entry-none : r1 ≡ TakenNone → EntrySays h ws EntryNone ws1
   entry-none e = record {
     inside = T .inside;
-    range = λ s y f. let z : _≡_ {A = ℕ} 0 1 = cc in absurd (omega arith);
+    range = λ s y f. zero-one cc;
     none = λ g u H p. (refl, T .none g u H p .1);
-    some = λ g u us H O ne. taken-some g u us H O ne (λ x k f. let z : _≡_ {A = ℕ} 0 1 = cc in absurd (omega arith));
+    some = λ g u us H O ne. taken-some g u us H O ne (λ x k f. zero-one cc);
   }
 
   pub entry-broken : r1 ≡ TakenBroken → EntrySays h ws EntryBroken ws1
   entry-broken e = record {
     inside = T .inside;
-    range = λ s y f. let z : _≡_ {A = ℕ} 0 1 = cc in absurd (omega arith);
-    none = λ g u H p. let f = T .none g u H p .0 in let z : _≡_ {A = ℕ} 0 1 = cc in absurd (omega arith);
-    some = λ g u us H O ne. taken-some g u us H O ne (λ x k f. let z : _≡_ {A = ℕ} 0 1 = cc in absurd (omega arith));
+    range = λ s y f. zero-one cc;
+    none = λ g u H p. let f = T .none g u H p .0 in zero-one cc;
+    some = λ g u us H O ne. taken-some g u us H O ne (λ x k f. zero-one cc);
   }
 
   module _ (x : ℕ) (k : Head) (e1 : r1 ≡ TakenId x k) where
@@ -115,7 +116,7 @@ module _ (h : Head) (ws ws1 : List ℕ) (r1 : Taken) (T : TakeSays h ws r1 ws1) 
       near2 {s} N = near-then near (subst (λ (n : ℕ). NearIds n k s) (T .inside .size) N)
 
       none2 : {A : Type 0} (g : Graph) (u : ℕ) → HoldsAt h u (view (h .n) (h .m) ws) g → g .pending ≡ [] → A
-      none2 g u H p = let f = T .none g u H p .0 in let z : _≡_ {A = ℕ} 0 1 = cc in absurd (omega arith)
+      none2 g u H p = let f = T .none g u H p .0 in zero-one cc
 
       closes-at : (g : Graph) (u : ℕ) (us : List (ℕ × ℕ)) → HoldsAt h u (view (h .n) (h .m) ws) g → Open us g → (i : ℕ) (rest : List ℕ) → g .pending ≡ i ∷ rest
           → (s : Head) × (r2 ≡ closed (step g (i ∷ rest) .answer) s) × HoldsAt s u (view (h .n) (h .m) ws2) (step g (i ∷ rest) .graph)
@@ -137,7 +138,7 @@ module _ (h : Head) (ws ws1 : List ℕ) (r1 : Taken) (T : TakeSays h ws r1 ws1) 
       pub entry-torn : r2 ≡ ClosedBroken → EntrySays h ws EntryBroken ws2
       entry-torn f = record {
         inside = inside2;
-        range = λ s y q. let z : _≡_ {A = ℕ} 0 1 = cc in absurd (omega arith);
+        range = λ s y q. zero-one cc;
         none = λ g u H p. none2 g u H p;
         some = λ g u us H O ne. let c = closes g u us H O ne in closed-broken (step g (g .pending) .answer) (c .0) (sym f ∙ c .1);
       }

@@ -9,7 +9,7 @@ use native.Mathlib.Omega.{arith}
 use lib.ListN.{List·getD-eq-default, length}
 use Rattle.lists.specs.Members.{Mem, mem-at}
 use Rattle.lists.specs.Reads.{at}
-use Rattle.lists.specs.Tests.{Says, lt-or}
+use Rattle.lists.specs.Tests.{Says, lt-or, zero-one}
 use Rattle.language.specs.Struct.{nodeOf}
 use Rattle.language.specs.Term.{places}
 use Rattle.steps.specs.Graph.{Graph, canon, ids, key-of, node}
@@ -40,7 +40,7 @@ module _ (h : Head) (i : ℕ) (ws : List ℕ) (f : Fetched) (F : Given (view (h 
   pub fresh-broken : f .out ≡ FetchBroken → FreshSays h i ws (record { out = RootingBroken; node = f .node })
   fresh-broken e = record {
     few = F .few;
-    sound = λ g u H l K. let q = fetched g u H l .0 in let z : _≡_ {A = ℕ} 0 1 = cc in absurd (omega arith);
+    sound = λ g u H l K. let q = fetched g u H l .0 in zero-one cc;
   }
 
   -- the children of a stored node are ids

@@ -7,6 +7,7 @@ use mathlib.Core.Path.{_∙_, _≡_, ap, refl, subst, sym}
 use Prim.Native.Nat.{_<_, _≤_, ℕ}
 use native.Mathlib.Omega.{arith}
 use lib.ListN.{length}
+use Rattle.lists.specs.Tests.{zero-one}
 use Rattle.language.specs.Struct.{nodeOf}
 use Rattle.language.specs.Term.{Term, term-at}
 use Rattle.language.specs.declared.Id.{Id}
@@ -61,14 +62,14 @@ module _ (h : Head) (k : Term) (ws : List ℕ) (a : Asked) (A : Answers (view (h
   pub oust-broken : a ≡ AskedBroken → OustSays h k ws RekeyedBroken ws
   oust-broken e = record {
     inside = inside-same (h .n) (h .m) ws;
-    range = λ x f. let z : _≡_ {A = ℕ} 0 1 = cc in absurd (omega arith);
+    range = λ x f. zero-one cc;
     sound = λ ns roots memo D i len live. absurd (nodes-ask _ _ _ _ ns roots memo D k a live A .sound e);
   }
 
   pub oust-none : a ≡ AskedNone → OustSays h k ws RekeyedNew ws
   oust-none e = record {
     inside = inside-same (h .n) (h .m) ws;
-    range = λ x f. let z : _≡_ {A = ℕ} 0 1 = cc in absurd (omega arith);
+    range = λ x f. zero-one cc;
     sound = λ ns roots memo D i len live.
         let none-kept = nodes-ask _ _ _ _ ns roots memo D k a live A .absent e in
         (ap was (sym none-kept), record { ts = view (h .n) (h .m) ws .table; is = refl; vacant = vacant-alone _ _ _ _ ns roots memo D i k live (inl none-kept) });
@@ -78,7 +79,7 @@ module _ (h : Head) (k : Term) (ws : List ℕ) (a : Asked) (A : Answers (view (h
     pub oust-unknown : h .ids ≤ x .0 → OustSays h k ws RekeyedBroken ws
     oust-unknown le = record {
       inside = inside-same (h .n) (h .m) ws;
-      range = λ y f. let z : _≡_ {A = ℕ} 0 1 = cc in absurd (omega arith);
+      range = λ y f. zero-one cc;
       sound = λ ns roots memo D i len live. absurd (omega (arith, nodes-ask _ _ _ _ ns roots memo D k a live A .inside x e));
     }
 
@@ -102,15 +103,15 @@ module _ (h : Head) (k : Term) (ws : List ℕ) (a : Asked) (A : Answers (view (h
       oust-left : c ≢ CutDone → OustSays h k ws RekeyedBroken ws1
       oust-left ne = record {
         inside = inside-lent (λ v l. refl) L;
-        range = λ y f. let z : _≡_ {A = ℕ} 0 1 = cc in absurd (omega arith);
+        range = λ y f. zero-one cc;
         sound = λ ns roots memo D i len live. absurd (ne (out ns roots memo D i live .0));
       }
 
       pub oust-absent : c ≡ CutAbsent → OustSays h k ws RekeyedBroken ws1
-      oust-absent f = oust-left (λ q. let z : _≡_ {A = ℕ} 0 1 = cc in omega arith)
+      oust-absent f = oust-left (λ q. zero-one cc)
 
       pub oust-torn : c ≡ CutBroken → OustSays h k ws RekeyedBroken ws1
-      oust-torn f = oust-left (λ q. let z : _≡_ {A = ℕ} 0 1 = cc in omega arith)
+      oust-torn f = oust-left (λ q. zero-one cc)
 
 -- ---- id i leaves under the key of its row; v is what the steps before have made of a view
 
@@ -127,7 +128,7 @@ module _ (h : Head) (i : ℕ) (ws : List ℕ) (f : Fetched) (F : Key (view (h .n
   pub vacate-broken : f .out ≡ FetchBroken → VacateSays h i ws ChangeBroken ws
   vacate-broken e = record {
     inside = inside-same (h .n) (h .m) ws;
-    sound = λ v ev ns ks R l. let q = fetched v ev .sound ns ks R l .0 in let z : _≡_ {A = ℕ} 0 1 = cc in absurd (omega arith);
+    sound = λ v ev ns ks R l. let q = fetched v ev .sound ns ks R l .0 in zero-one cc;
   }
 
   pub vacate-left : (b : ℕ) → Lands (h .n) (nodeOf (f .node)) b → (ws1 : List ℕ) (c : Cut) (r : Change) → (c ≢ CutBroken → r ≡ ChangeDone)

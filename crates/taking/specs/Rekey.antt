@@ -5,8 +5,8 @@ use mathlib.Core.List.{List, _∷_}
 use mathlib.Core.Option.{some}
 use mathlib.Core.Path.{_∙_, _≡_, subst, sym}
 use Prim.Native.Nat.{_<_, ℕ}
-use native.Mathlib.Omega.{arith}
 use Rattle.lists.specs.Members.{Mem}
+use Rattle.lists.specs.Tests.{zero-one}
 use Rattle.language.specs.Struct.{nodeOf}
 use Rattle.language.specs.Term.{Term}
 use Rattle.steps.specs.Graph.{Graph, ids, kept, key-of, node}
@@ -69,8 +69,8 @@ module _ (h : Head) (i : ℕ) (ws : List ℕ) (f : Rooted) (F : FreshSays h i ws
   pub rekey-lost : f .out ≡ RootingBroken → RekeySays h i ws RekeyedBroken ws
   rekey-lost e = record {
     inside = inside-same (h .n) (h .m) ws;
-    range = λ x q. let z : _≡_ {A = ℕ} 0 1 = cc in absurd (omega arith);
-    sound = λ g u H R. let q = F .sound g u H (R .low) (R .kids) .0 in let z : _≡_ {A = ℕ} 0 1 = cc in absurd (omega arith);
+    range = λ x q. zero-one cc;
+    sound = λ g u H R. let q = F .sound g u H (R .low) (R .kids) .0 in zero-one cc;
   }
 
   module _ (ws1 ws2 : List ℕ) (o : Rekeyed) (s : Change) (O : OustSays h (nodeOf (f .node)) ws o ws1) (S : SettleSays h i (nodeOf (f .node)) ws1 s ws2) where
@@ -100,8 +100,8 @@ module _ (h : Head) (i : ℕ) (ws : List ℕ) (f : Rooted) (F : FreshSays h i ws
     pub rekey-stuck : s ≡ ChangeBroken → RekeySays h i ws RekeyedBroken ws2
     rekey-stuck e = record {
       inside = inside-then (O .inside) (S .inside);
-      range = λ x q. let z : _≡_ {A = ℕ} 0 1 = cc in absurd (omega arith);
-      sound = λ g u H R. let q = both g u H R .0 in let z : _≡_ {A = ℕ} 0 1 = cc in absurd (omega arith);
+      range = λ x q. zero-one cc;
+      sound = λ g u H R. let q = both g u H R .0 in zero-one cc;
     }
 
     pub rekey-done : RekeySays h i ws o ws2

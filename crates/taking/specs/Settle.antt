@@ -4,8 +4,8 @@ use mathlib.Core.List.{List, _∷_}
 use mathlib.Core.Option.{some}
 use mathlib.Core.Path.{_≡_, refl, subst}
 use Prim.Native.Nat.{_<_, ℕ}
-use native.Mathlib.Omega.{arith}
 use lib.ListN.{length}
+use Rattle.lists.specs.Tests.{zero-one}
 use Rattle.language.specs.Term.{Term}
 use Rattle.steps.specs.Graph.{canon, kept, node}
 use Rattle.closure.specs.Tables.{Live}
@@ -43,7 +43,7 @@ pub record SettleSays (h : Head) (i : ℕ) (k : Term) (ws : List ℕ) (r : Chang
       → Settled h i k v ns roots memo r ws′
 
 apart : {A : Type 0} (r : Change) → r ≡ ChangeBroken → r ≡ ChangeDone → A
-apart r e f = let z : _≡_ {A = ℕ} 0 1 = cc in absurd (omega arith)
+apart r e f = zero-one cc
 
 module _ (h : Head) (i : ℕ) (k : Term) (ws ws1 : List ℕ) (d : Change) (L : VacateSays h i ws d ws1) where
   -- i is out
@@ -69,8 +69,7 @@ module _ (h : Head) (i : ℕ) (k : Term) (ws ws1 : List ℕ) (d : Change) (L : V
           let a = left v ev ts₀ ns roots memo D low W in
           let n = lent-next K (a .2) in
           let f = rekey-row _ _ _ ts₀ ns roots memo D i k (n .new) q low key (n .did) .0 in
-          let z : _≡_ {A = ℕ} 0 1 = cc in
-          absurd (omega arith);
+          zero-one cc;
     }
 
     pub settle-done : (b : ℕ) → Lands (h .n) k b → (ws3 : List ℕ) (r : Change) → Lent table (h .n) (h .m) (λ w w′. Entered w w′ (h .n) b i r) ws2 ws3 → SettleSays h i k ws r ws3

@@ -7,7 +7,7 @@ use Prim.Native.Nat.{_+_, _-_, _<_, _≤_, ℕ}
 use native.Mathlib.Omega.{arith}
 use lib.ListN.{length}
 use Rattle.lists.specs.Reads.{at}
-use Rattle.lists.specs.Tests.{lt-or}
+use Rattle.lists.specs.Tests.{lt-or, zero-one}
 use Rattle.steps.specs.Graph.{Graph, ids}
 use Rattle.steps.specs.Machine.{popped}
 use Rattle.cells.specs.Reading.{Word}
@@ -99,7 +99,7 @@ hands-range len h d i r ok le K x k e = go (lt-or i (h .ids))
         let a : i ≡ x = cc in
         let b : at-depth h d ≡ k = cc in
         (omega arith, subst (λ (s : Head). NearIds len h s) b (near-depth len h d ok le))
-    go (inr l) = let f = K .unknown l in let z : _≡_ {A = ℕ} 0 1 = cc in absurd (omega arith)
+    go (inr l) = let f = K .unknown l in zero-one cc
 
 module _ (h : Head) (ws : List ℕ) (ok : HeadOk (length ws) h) where
   -- ---- the ways out of `take_last`
@@ -108,7 +108,7 @@ module _ (h : Head) (ws : List ℕ) (ok : HeadOk (length ws) h) where
     pub last-broken : h .m ≤ place → LastSays h place count ws TakenBroken ws
     last-broken le = record {
       inside = inside-same (h .n) (h .m) ws;
-      range = λ x k e. let z : _≡_ {A = ℕ} 0 1 = cc in absurd (omega arith);
+      range = λ x k e. zero-one cc;
       sound = λ g u H t T is i rest e l. absurd (let w = parents-many-low _ _ _ _ _ _ _ _ _ _ (H .parents) place count t (q .0) T is in omega arith);
     }
 
@@ -132,7 +132,7 @@ module _ (h : Head) (ws : List ℕ) (ok : HeadOk (length ws) h) where
   pub take-none : h .depth ≡ 0 → TakeSays h ws TakenNone ws
   take-none z = record {
     inside = inside-same (h .n) (h .m) ws;
-    range = λ x k e. let y : _≡_ {A = ℕ} 0 1 = cc in absurd (omega arith);
+    range = λ x k e. zero-one cc;
     none = λ g u H e. (refl, refl);
     some = λ g u H i rest e l. absurd (cons≢nil (sym e ∙ parents-empty _ _ _ _ _ _ _ _ _ _ (H .parents) z));
   }

@@ -10,7 +10,7 @@ use lib.ListN.{length}
 use Rattle.cells.specs.Changes.{change-apart}
 use Rattle.lists.specs.Members.{no-member}
 use Rattle.lists.specs.Reads.{at, set-all}
-use Rattle.lists.specs.Tests.{lt-or}
+use Rattle.lists.specs.Tests.{lt-or, zero-one}
 use Rattle.language.specs.Sorted.{sorted}
 use Rattle.language.specs.Term.{Term, term-at}
 use Rattle.steps.specs.Classes.{class-nodes}
@@ -111,7 +111,7 @@ module _ (h : Head) (ws : List ℕ) where
     }
       where
         never : {B : Type 0} (k : Head) → SteppedBroken ≡ SteppedTo k → B
-        never k f = let z : _≡_ {A = ℕ} 0 1 = cc in absurd (omega arith)
+        never k f = zero-one cc
 
   pub tidied-all : (i : ℕ) (ws′ : List ℕ) → HeadOk (length ws) h → h .ids ≤ i → TidiedTo h ws ws′ i → Tidies h ws (SteppedTo (cleaned h)) ws′
   tidied-all i ws′ ok end A = record {

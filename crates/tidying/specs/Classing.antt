@@ -5,6 +5,7 @@ use mathlib.Core.Path.{_≡_, ap, refl, subst, sym}
 use Prim.Native.Nat.{_+_, _<_, _≤_, ℕ}
 use native.Mathlib.Omega.{arith}
 use lib.ListN.{length, take}
+use Rattle.lists.specs.Tests.{zero-one}
 use Rattle.cells.specs.Changes.{change-apart}
 use Rattle.steps.specs.Graph.{Graph}
 use Rattle.cells.specs.Empty.{Emptied}
@@ -69,7 +70,7 @@ module _ (h : Head) (a : ℕ) (ws : List ℕ) (ok : HeadOk (length ws) h) (ha : 
       pub class-unsorted : r2 ≡ SortedBroken → TidiesClass h a ws ChangeBroken ws2
       class-unsorted e = record {
         inside = inside2;
-        sound = λ g u H now. let f = answer g u H .1 in let z : _≡_ {A = ℕ} 0 1 = cc in absurd (omega arith);
+        sound = λ g u H now. let f = answer g u H .1 in zero-one cc;
       }
 
       module _ (d : ℕ) (er : r2 ≡ SortedTo d) (few : k ≤ h .n) where

@@ -11,7 +11,7 @@ use lib.ListN.{length, getD, set, length-set}
 use lib.Seq.{getD-set-other}
 use Rattle.lists.specs.Reads.{at}
 use Rattle.lists.specs.Relabel.{relabel}
-use Rattle.lists.specs.Tests.{when}
+use Rattle.lists.specs.Tests.{when, zero-one}
 use Rattle.unionfind.specs.Words.{Stored, findIn, halve, Halved}
 use Rattle.unionfind.specs.Forest.{Forest}
 use Rattle.unionfind.specs.Sound.{find-sound, halve-sound}
@@ -47,14 +47,14 @@ pub record Unites (ps : List ℕ) (root1 root2 : ℕ) (ps′ : List ℕ) : Type 
 
 find-inside : (ps : List ℕ) (N f i x : ℕ) → i < N → findIn ps N f i ≡ FoundRoot x → x < N
 unfolding findIn
-find-inside ps N zero i x h e = let z : _≡_ {A = ℕ} 0 1 = cc in absurd (omega arith)
+find-inside ps N zero i x h e = zero-one cc
 find-inside ps N (suc f) i x h e = go (ℕ-discrete (at ps i) i) (decLt (at ps i) N) (find-inside ps N f (at ps i) x) e
   where
     go : (d : Dec (at ps i ≡ i)) (l : Dec (at ps i < N)) → (at ps i < N → findIn ps N f (at ps i) ≡ FoundRoot x → x < N)
         → when d (FoundRoot i) (when l (findIn ps N f (at ps i)) FoundLost) ≡ FoundRoot x → x < N
     go (yes w) l ih e = let q : i ≡ x = cc in omega arith
     go (no n) (yes l) ih e = ih l e
-    go (no n) (no l) ih e = let z : _≡_ {A = ℕ} 0 1 = cc in absurd (omega arith)
+    go (no n) (no l) ih e = zero-one cc
 
 record Fair (ps : List ℕ) (N : ℕ) (o : Halved) : Type 0 where
   low : (x : ℕ) → o .answer ≡ FoundRoot x → x < N
@@ -64,7 +64,7 @@ record Fair (ps : List ℕ) (N : ℕ) (o : Halved) : Type 0 where
 halve-fair : (f : ℕ) (ps : List ℕ) (N i : ℕ) → i < N → Fair ps N (halve ps N f i)
 unfolding halve
 halve-fair zero ps N i h = record {
-  low = λ x e. let z : _≡_ {A = ℕ} 0 1 = cc in absurd (omega arith);
+  low = λ x e. zero-one cc;
   size = refl;
   rest = λ j l. refl;
 }
@@ -77,7 +77,7 @@ halve-fair (suc f) ps N i h = go (ℕ-discrete (at ps i) i) (decLt (at ps i) N) 
     lost = record { answer = FoundLost; left = ps }
 
     stopped : Fair ps N lost
-    stopped = record { low = λ x e. let z : _≡_ {A = ℕ} 0 1 = cc in absurd (omega arith); size = refl; rest = λ j l. refl }
+    stopped = record { low = λ x e. zero-one cc; size = refl; rest = λ j l. refl }
 
     stored : Fair (set ps i g) N (halve (set ps i g) N f g) → Fair ps N (halve (set ps i g) N f g)
     stored m = record {

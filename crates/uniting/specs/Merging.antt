@@ -7,6 +7,7 @@ use Prim.Native.Nat.{_*_, _+_, _<_, _≤_, ℕ}
 use native.Mathlib.Omega.{arith}
 use lib.ListN.{length}
 use Rattle.lists.specs.Reads.{at}
+use Rattle.lists.specs.Tests.{zero-one}
 use Rattle.steps.specs.Machine.{merge}
 use Rattle.cells.specs.Changes.{Joined}
 use Rattle.cells.specs.Reading.{Word}
@@ -27,10 +28,10 @@ use Rattle.uniting.specs.Near.{NearIds}
 use Rattle.uniting.specs.Says.{MergeSays, merged-numbers}
 
 never : {A : Type 0} (k : Head) → SteppedBroken ≡ SteppedTo k → A
-never k e = let z : _≡_ {A = ℕ} 0 1 = cc in absurd (omega arith)
+never k e = zero-one cc
 
 apart : {A : Type 0} (r : Change) → r ≡ ChangeBroken → r ≡ ChangeDone → A
-apart r e f = let z : _≡_ {A = ℕ} 0 1 = cc in absurd (omega arith)
+apart r e f = zero-one cc
 
 merged-near : (len : ℕ) (h : Head) (d : ℕ) → HeadOk len h → h .depth < 2 * h .n → d ≤ h .depth + 1 → NearIds len h (merged-numbers h d)
 merged-near len h d ok room high = record { near = record { ok = omega arith; n-is = refl; m-is = refl }; ids-is = refl; places-is = refl }

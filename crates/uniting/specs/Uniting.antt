@@ -8,6 +8,7 @@ use Prim.Native.Nat.{_<_, ℕ}
 use native.Mathlib.Decide.{decLt, ℕ-discrete}
 use native.Mathlib.Omega.{arith}
 use lib.ListN.{length}
+use Rattle.lists.specs.Tests.{zero-one}
 use Rattle.steps.specs.Graph.{Graph, root, uses}
 use Rattle.steps.specs.Machine.{Joined, marked, union, union-by}
 use Rattle.holds.specs.Holds.{HoldsAt}
@@ -59,7 +60,7 @@ says-yes g a b n (no s) = refl
 -- ---- the ids' roots
 
 never-found : {A : Type 0} (r : Found) (x : ℕ) → r ≡ FoundLost → r ≡ FoundRoot x → A
-never-found r x e f = let z : _≡_ {A = ℕ} 0 1 = cc in absurd (omega arith)
+never-found r x e f = zero-one cc
 
 -- a root found, and the graph as it was
 found : (h : Head) (i : ℕ) (ws ws1 : List ℕ) (r : Found) (g : Graph) (u : ℕ) → Lent forest (h .n) (h .m) (λ f f′. FindsMut f (h .ids) i r f′) ws ws1
@@ -78,10 +79,10 @@ root-own h u v g i H l = root-root (H .forest) i l
 -- ---- the ways out
 
 no-yes : {A : Type 0} (k : Head) → UnitedBroken ≡ UnitedYes k → A
-no-yes k e = let z : _≡_ {A = ℕ} 0 1 = cc in absurd (omega arith)
+no-yes k e = zero-one cc
 
 no-no : {A : Type 0} (k : Head) → UnitedBroken ≡ UnitedNo k → A
-no-no k e = let z : _≡_ {A = ℕ} 0 1 = cc in absurd (omega arith)
+no-no k e = zero-one cc
 
 unclean-near : (len : ℕ) (h : Head) → HeadOk len h → NearIds len h (unclean h)
 unclean-near len h ok = record { near = record { ok = omega arith; n-is = refl; m-is = refl }; ids-is = refl; places-is = refl }
@@ -128,7 +129,7 @@ module _ (h : Head) (i j : ℕ) (ws ws1 : List ℕ) (r1 : Found) (R1 : Lent fore
       pub unite-same : HeadOk (length ws) h → x ≡ y → UniteSays h i j ws (UnitedNo (unclean h)) ws2
       unite-same ok e = record {
         inside = inside2;
-        range-yes = λ k f. let z : _≡_ {A = ℕ} 0 1 = cc in absurd (omega arith);
+        range-yes = λ k f. zero-one cc;
         range-no = λ k f. let z : unclean h ≡ k = cc in subst (λ (s : Head). NearIds (length ws) h s) z (unclean-near (length ws) h ok);
         sound = λ g u H.
             let s = union-same g i j (sym (x-is g u H) ∙ e ∙ y-is g u H) in
@@ -156,13 +157,13 @@ module _ (h : Head) (i j : ℕ) (ws ws1 : List ℕ) (r1 : Found) (R1 : Lent fore
           inside = inside4;
           range-yes = λ k. no-yes k;
           range-no = λ k. no-no k;
-          sound = λ g u H. let b = both g u H in let f = b .1 in let z : _≡_ {A = ℕ} 0 1 = cc in absurd (omega arith);
+          sound = λ g u H. let b = both g u H in let f = b .1 in zero-one cc;
         }
 
         pub unite-yes : (k : Head) → r3 ≡ SteppedTo k → UniteSays h i j ws (UnitedYes k) ws3
         unite-yes k e = record {
           inside = inside4;
           range-yes = λ s f. let z : k ≡ s = cc in subst (λ (n : ℕ). NearIds n h s) (inside2 .size) (J .range s (e ∙ ap SteppedTo z));
-          range-no = λ s f. let z : _≡_ {A = ℕ} 0 1 = cc in absurd (omega arith);
+          range-no = λ s f. zero-one cc;
           sound = λ g u H. let b = both g u H in let f = b .1 in let z : b .0 ≡ k = cc in (b .0, ap UnitedYes (sym z) ∙ sym (b .2), b .3);
         }

@@ -11,6 +11,7 @@ use native.Mathlib.Omega.{arith}
 use lib.ListN.{drop, length}
 use lib.Seq.{drop-cons, drop-length}
 use Rattle.lists.specs.Reads.{at}
+use Rattle.lists.specs.Tests.{zero-one}
 use Rattle.language.specs.Struct.{nodeOf}
 use Rattle.language.specs.Term.{Term}
 use Rattle.steps.specs.Graph.{Graph, ids, key-of}
@@ -42,7 +43,7 @@ told none = NextKidNone
 told (some c) = NextKidIs c
 
 pub broken-is : {A : Type 0} (c : ℕ) → NextKidBroken ≡ NextKidIs c → A
-broken-is c e = let z : _≡_ {A = ℕ} 0 1 = cc in absurd (omega arith)
+broken-is c e = zero-one cc
 
 -- ---- a node's children
 
@@ -86,7 +87,7 @@ module _ (n N : ℕ) (ss : List ℕ) (x : Term) where
   pub look-all : (i : ℕ) → i ≡ length (x .kids) → Looking n N ss x i → FirstKid n N ss x NextKidNone
   unfolding unlisted
   look-all i e A = record {
-    low = λ d q. let z : _≡_ {A = ℕ} 0 1 = cc in absurd (omega arith);
+    low = λ d q. zero-one cc;
     law = λ l P K. sym (ap told (A .law l P K ∙ last l));
   }
     where
@@ -128,7 +129,7 @@ module _ (h : Head) (c : ℕ) (v : View) (e : Entry) (hc : c < h .n) (E : EntryA
       next-unread o w q = record { low = λ x p. broken-is x p; law = λ g t b l C P u D. absurd (apart (row-is g t b C P u .0)) }
         where
           apart : f .out ≡ FetchDone → ⊥
-          apart d = let z : _≡_ {A = ℕ} 0 1 = cc in omega arith
+          apart d = zero-one cc
 
       pub next-done : (r : NextKid) → FirstKid (h .n) (h .ids) (v .scratch) (nodeOf (f .node)) r → NextKidOf h c v r
       next-done r K = record {

@@ -12,6 +12,7 @@ use lib.ListN.{length, set}
 use Rattle.lists.specs.Keeps.{length-filter, length-upto, upto}
 use Rattle.lists.specs.Reads.{at}
 use Rattle.lists.specs.Stores.{puts, puts-hit, puts-miss}
+use Rattle.lists.specs.Tests.{zero-one}
 use Rattle.steps.specs.Classes.{class-nodes, class-roots}
 use Rattle.steps.specs.Graph.{Graph, ids, root}
 use Rattle.closure.specs.Listed.{roots-from}
@@ -72,16 +73,16 @@ few-roots : (g : Graph) → length (class-roots g) ≤ ids g
 few-roots g = omega (arith, length-filter (λ (i : ℕ). ℕ-discrete (root (g .roots) i) i) (upto (ids g)), length-upto (ids g))
 
 told-some : (o : Option ℕ) (x : ℕ) → NextKidIs x ≡ told o → o ≡ some x
-told-some none x e = let z : _≡_ {A = ℕ} 0 1 = cc in absurd (omega arith)
+told-some none x e = zero-one cc
 told-some (some y) x e = let z : x ≡ y = cc in ap some (sym z)
 
 told-none : (o : Option ℕ) → NextKidNone ≡ told o → o ≡ none
 told-none none e = refl
-told-none (some y) e = let z : _≡_ {A = ℕ} 0 1 = cc in absurd (omega arith)
+told-none (some y) e = zero-one cc
 
 told-not : (o : Option ℕ) → NextKidBroken ≡ told o → ⊥
-told-not none e = let z : _≡_ {A = ℕ} 0 1 = cc in omega arith
-told-not (some y) e = let z : _≡_ {A = ℕ} 0 1 = cc in omega arith
+told-not none e = zero-one cc
+told-not (some y) e = zero-one cc
 
 module _ (h : Head) (g : Graph) (t : Table ℕ) (B : Backed AstSize (class-nodes g) t) (K : Ranked AstSize (class-nodes g) t) (m : Listing) (ss : List ℕ) (k d c : ℕ)
     (S : Standing h g t B K m ss k d) where
@@ -163,7 +164,7 @@ module _ (h : Head) (g : Graph) (t : Table ℕ) (B : Backed AstSize (class-nodes
 -- ---- the ways out
 
 to-broken : {A : Type 0} (a : Reached) → SteppedBroken ≡ SteppedTo a → A
-to-broken a e = let z : _≡_ {A = ℕ} 0 1 = cc in absurd (omega arith)
+to-broken a e = zero-one cc
 
 module _ (h : Head) (k d : ℕ) (ws : List ℕ) (ok : HeadOk (length ws) h) (hk : k ≤ h .n) (some-deep : 0 < d) (hd : d ≤ h .n) (c : ℕ)
     (L : Loaded (view (h .n) (h .m) ws .scratch) (5 * h .n + (d - 1)) c) where

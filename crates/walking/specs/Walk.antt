@@ -11,6 +11,7 @@ use lib.ListN.{length, replicate}
 use Rattle.lists.specs.Options.{none≢some}
 use Rattle.lists.specs.Reads.{at, getD-copies}
 use Rattle.lists.specs.Stores.{puts-hit, puts-miss}
+use Rattle.lists.specs.Tests.{zero-one}
 use Rattle.steps.specs.Classes.{class-nodes, class-roots}
 use Rattle.steps.specs.Graph.{Graph}
 use Rattle.cells.specs.declared.Change.{Change}
@@ -94,12 +95,12 @@ module _ (h : Head) (ws : List ℕ) where
     pub walk-broken : o ≡ SteppedBroken → Walks h ws ListedBroken ws2
     walk-broken e = record {
       only = both;
-      few = λ j q. let z : _≡_ {A = ℕ} 0 1 = cc in absurd (omega arith);
+      few = λ j q. zero-one cc;
       law = λ g t B K m C S. let s = W .law g t B K m (classed-lent (A .only) C) (A .law g t B K m C S) in absurd (apart (s .0) (sym e ∙ s .1));
     }
       where
         apart : (a : Reached) → SteppedBroken ≡ SteppedTo a → ⊥
-        apart a q = let z : _≡_ {A = ℕ} 0 1 = cc in omega arith
+        apart a q = zero-one cc
 
   -- the stack is empty
   pub walk-done : (k d : ℕ) (ws′ : List ℕ) → k ≤ h .n → d ≡ 0 → Walking h k d ws ws′ → Walks h ws (ListedIs k) ws′

@@ -1,6 +1,7 @@
 use mathlib.Core.Path.{_≡_, sym, _∙_}
-use Prim.Native.Nat.{ℕ, _-_}
+use Prim.Native.Nat.{_-_}
 use native.Mathlib.Omega.{arith}
+use Rattle.lists.specs.Tests.{zero-one}
 use Rattle.sorting.specs.Ids.{below-at}
 use borrow.Author.Needs.{needs}
 use Rattle.sorting.proofs.meets.Statement.{statement}
@@ -10,13 +11,13 @@ add-if1 : tie.Need-add-if1
 add-if1 c = search needs
 
 returns : tie.Need-returns
-returns c = λ e. absurd (let z : _≡_ {A = ℕ} 0 1 = cc in omega arith)
+returns c = λ e. zero-one cc
 
 returns-2 : tie.Need-returns-2
-returns-2 c = λ e. absurd (let z : _≡_ {A = ℕ} 0 1 = cc in omega arith)
+returns-2 c = λ e. zero-one cc
 
 returns-3 : tie.Need-returns-3
-returns-3 c = λ e. absurd (let z : _≡_ {A = ℕ} 0 1 = cc in omega arith)
+returns-3 c = λ e. zero-one cc
 
 sub-compare : tie.Need-sub-compare
 sub-compare c = search needs
@@ -41,10 +42,10 @@ returns-4 : tie.Need-returns-4
 returns-4 c = λ e. record { touch = omega arith; some-left = omega arith; some-right = omega arith; comes = sym (c .before .before .compare .ensures) ∙ c .enum-told .given .1 }
 
 returns-5 : tie.Need-returns-5
-returns-5 c = λ e. absurd (let z : _≡_ {A = ℕ} 0 1 = cc in omega arith)
+returns-5 c = λ e. zero-one cc
 
 returns-6 : tie.Need-returns-6
-returns-6 c = λ e. absurd (let z : _≡_ {A = ℕ} 0 1 = cc in omega arith)
+returns-6 c = λ e. zero-one cc
 
 pub meets-spec : {M : Type 1} → statement M
 meets-spec =

@@ -1,6 +1,5 @@
 use mathlib.Core.Path.{_≡_, sym, _∙_}
-use Prim.Native.Nat.{ℕ}
-use native.Mathlib.Omega.{arith}
+use Rattle.lists.specs.Tests.{zero-one}
 use Rattle.table.specs.Seeking.{compare-broken, compare-same, compare-other}
 use borrow.Author.Needs.{needs}
 use Rattle.table.proofs.compare.Statement.{statement}
@@ -22,7 +21,7 @@ returns : tie.Need-returns
 returns c = compare-same _ _ _ _ _ (sym (c .before .before .before .before .before .key .ensures .exact) ∙ c .before .same .ensures .holds (c .if1 .taken))
 
 returns-2 : tie.Need-returns-2
-returns-2 c = compare-broken _ _ _ _ _ (λ s. let e = c .before .before .key .ensures .done s in let f = c .enum-told .given .1 in let z : _≡_ {A = ℕ} 0 1 = cc in omega arith)
+returns-2 c = compare-broken _ _ _ _ _ (λ s. let e = c .before .before .key .ensures .done s in let f = c .enum-told .given .1 in zero-one cc)
 
 returns-3 : tie.Need-returns-3
 returns-3 c = compare-other _ _ _ _ _ (λ e. c .before .same .ensures .fails (c .if1 .left) (c .before .before .before .before .before .key .ensures .exact ∙ e))
