@@ -1,5 +1,5 @@
--- What `find`, `number_of_classes`, `is_empty` and `clean` promise. They take the words by `&` and change nothing. On any words 3 and 4 come exactly when document 01
--- says; what is left is an answer, or 9, which never comes on words that hold a graph.
+-- What `find`, `number_of_classes`, `is_empty` and `clean` promise. They take the words by `&` and change nothing. On any words 3, 4 and 9 come exactly when document 01
+-- says, and else the answer is what stands in the words; 9 never comes on words that hold a graph.
 -- Assumes nothing.
 use mathlib.Core.Bool.{Bool, false, true}
 use mathlib.Core.List.{List, [], _∷_}
@@ -26,12 +26,23 @@ use Rattle.layout.specs.View.{hd, view}
 use Rattle.layout.specs.declared.Head.{Head}
 use Rattle.unionfind.specs.Forest.{class-count}
 use Rattle.unionfind.specs.Promise.{Finds}
+use Rattle.unionfind.specs.Words.{findIn}
 use Rattle.unionfind.specs.declared.Found.{Found}
 use Rattle.unionfind.specs.declared.Found.the-variants.{FoundLost, FoundRoot}
 
 -- ---- find
 
+-- where the chain of links from id i ends, as the words of the forest have it; one that leads outside the ids, or does not end among them, is lost
+abbrev pub chain-in : Head → List ℕ → ℕ → Found
+chain-in h ws i = findIn (view (h .n) (h .m) ws .forest) (h .ids) (h .ids) i
+
+-- a root, or 9
+abbrev pub chain-says : Found → Answer
+chain-says (FoundRoot x) = yes-with (x ∷ [])
+chain-says FoundLost = no-by 9
+
 pub record FindOpen (ws : List ℕ) (i : ℕ) (r : FindAnswer) : Type 0 where
+  pub exact : find-says r ≡ chain-says (chain-in (head-of ws) ws i)
   pub fair : (k : ℕ) → find-says r ≡ no-by k → k ≡ 9
   pub sound : (g : Graph) → Holds ws g → find-says r ≡ yes-with (root (g .roots) i ∷ [])
 
@@ -47,14 +58,19 @@ module _ (ws : List ℕ) (h : Head) (q : HeadIs (length ws) (hd ws) h) (i : ℕ)
   unfolding root
   law g H = F .law (h .classes) (g .roots) (holds-in ws h g q H .forest)
 
+  -- and on any words
+  chained : r ≡ chain-in (head-of ws) ws i
+  chained = F .exact ∙ ap (λ (s : Head). chain-in s ws i) (q .is)
+
   pub find-lost : r ≡ FoundLost → FindOpen ws i (FindNot BrokenWords)
-  find-lost e = record { fair = nine; sound = λ g H. absurd (apart (sym e ∙ law g H)) }
+  find-lost e = record { exact = ap chain-says (sym e ∙ chained); fair = nine; sound = λ g H. absurd (apart (sym e ∙ law g H)) }
     where
       apart : {x : ℕ} → FoundLost ≡ FoundRoot x → ⊥
       apart p = zero-one cc
 
   pub find-root : (x : ℕ) → r ≡ FoundRoot x → FindOpen ws i (FindRoot (record { 0 = x }))
   find-root x e = record {
+    exact = ap chain-says (sym e ∙ chained);
     fair = λ k p. absurd (never k x p);
     sound = λ g H. let s : x ≡ root (g .roots) i = cc (e, law g H) in ap (λ (y : ℕ). yes-with (y ∷ [])) s;
   }
