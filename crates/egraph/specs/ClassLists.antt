@@ -4,7 +4,7 @@
 use mathlib.Core.Bool.{Bool, false, true}
 use mathlib.Core.List.{List, [], _∷_}
 use mathlib.Core.Logic.{inl, inr}
-use mathlib.Core.Path.{_∙_, _≡_, ap, refl, sym}
+use mathlib.Core.Path.{_∙_, _≡_, ap, refl, subst, sym}
 use Prim.Native.Nat.{_<_, _≤_, ℕ}
 use native.Mathlib.Omega.{arith}
 use lib.ListN.{length}
@@ -12,13 +12,14 @@ use Rattle.lists.specs.Tests.{Says}
 use Rattle.steps.specs.Classes.{classes, classes-for-op, total-number-of-nodes}
 use Rattle.steps.specs.Graph.{Graph}
 use Rattle.eclass.specs.Checks.{Totals, UnbrokenIn, unbroken}
+use Rattle.eclass.specs.ClassCount.{total-of}
 use Rattle.eclass.specs.ClassHeld.{total-few, total-is}
 use Rattle.eclass.specs.Lists.{classes-are, classes-in}
 use Rattle.eclass.specs.Ops.{ops-are, ops-in}
 use Rattle.eclass.specs.Pieces.{Wrote, wrote-back, wrote-front}
 use Rattle.eclass.specs.declared.Total.{Total}
 use Rattle.eclass.specs.declared.Total.the-variants.{TotalBroken, TotalIs}
-use Rattle.egraph.specs.Answers.{Answer, Else, ListOpen, Lists, Unless-3, Unless-7, cleaned, count-says, held-clean, list-says, never, nine, no-by, opened, shut, unclean, yes-with}
+use Rattle.egraph.specs.Answers.{Answer, Else, ListOpen, Lists, Unless-3, Unless-7, cleaned, count-says, head-of, held-clean, list-says, never, nine, no-by, opened, pass, shut, stop, unclean, yes-with}
 use Rattle.egraph.specs.Listing.{words≢not}
 use Rattle.egraph.specs.declared.CountAnswer.{CountAnswer}
 use Rattle.egraph.specs.declared.CountAnswer.the-variants.{CountIs, CountNot}
@@ -35,7 +36,15 @@ use Rattle.layout.specs.declared.HeadRead.the-variants.{HeadBad, HeadGood}
 
 -- ---- how many nodes
 
+-- how many members all lists have, as their length words say; more than there are ids are broken words
+abbrev pub total-in : Head → List ℕ → ℕ
+total-in h ws = total-of (view (h .n) (h .m) ws .members) (h .n) (h .ids)
+
+abbrev pub TotalAt : Head → List ℕ → CountAnswer → Type 0
+TotalAt h ws r = Else (h .ids < total-in h ws) (count-says r ≡ no-by 9) (total-in h ws ≤ h .ids) (count-says r ≡ yes-with (total-in h ws ∷ []))
+
 pub record TotalOpen (ws : List ℕ) (r : CountAnswer) : Type 0 where
+  pub exact : TotalAt (head-of ws) ws r
   pub fair : (k : ℕ) → count-says r ≡ no-by k → k ≡ 9
   pub sound : (g : Graph) → Holds ws g → count-says r ≡ yes-with (total-number-of-nodes g ∷ [])
 
@@ -56,14 +65,19 @@ module _ (ws : List ℕ) (h : Head) (q : HeadIs (length ws) (hd ws) h) (c : h .c
   its-clean g H = sym (holds-in ws h g q H .clean-is) ∙ c
 
   module _ (r : Total) (T : Totals (view (h .n) (h .m) ws .members) (h .n) (h .ids) r) where
+    over : (x y : ℕ) → x < y → y ≤ x → ⊥
+    over x y a b = omega arith
+
     pub total-broken : r ≡ TotalBroken → TotalOpen ws (CountNot BrokenWords)
     total-broken e = record {
+      exact = subst (λ (s : Head). TotalAt s ws (CountNot BrokenWords)) (q .is) (stop (T .broken e) (over _ _) refl);
       fair = λ k p. nine k p;
       sound = λ g H. absurd (omega (arith, T .broken e, total-few (holds-in ws h g q H) (its-clean g H)));
     }
 
     pub total-counted : (t : ℕ) → r ≡ TotalIs t → TotalOpen ws (CountIs t)
     total-counted t e = record {
+      exact = subst (λ (s : Head). TotalAt s ws (CountIs t)) (q .is) (pass (rw (T .exact t e) at (T .few t e)) (over _ _) (ap (λ (x : ℕ). yes-with (x ∷ [])) (T .exact t e)));
       fair = λ k p. absurd (never k t p);
       sound = λ g H. ap (λ (x : ℕ). yes-with (x ∷ [])) (T .exact t e ∙ total-is (holds-in ws h g q H) (its-clean g H));
     }
