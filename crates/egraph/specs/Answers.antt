@@ -134,13 +134,6 @@ pub record Lists (xs out : List ℕ) (r : ListAnswer) (out′ : List ℕ) : Type
   pub fits : length xs ≤ length out
       → (list-says r ≡ yes-with (length xs ∷ [])) × (take (length xs) out′ ≡ xs) × (drop (length xs) out′ ≡ drop (length xs) out)
 
--- what is left for a list of a graph, once nothing before 9 refuses it: 9 or 8, with the slice as it was, or words of the slice; and on words that hold a graph its list
-pub record ListOpen (list : Graph → List ℕ) (ws out : List ℕ) (r : ListAnswer) (out′ : List ℕ) : Type 0 where
-  pub inside : (k : ℕ) → r ≡ ListWords k → k ≤ length out
-  pub size : length out′ ≡ length out
-  pub refused : (k : ℕ) → list-says r ≡ no-by k → ((k ≡ 9) ⊎ (k ≡ 8)) × (out′ ≡ out)
-  pub sound : (g : Graph) → Holds ws g → Lists (list g) out r out′
-
 -- ---- the ladder of refusals, in document 01's order: refused where Bad, and else what comes after
 
 pub record Else (Bad No Good Next : Type 0) : Type 0 where
@@ -175,6 +168,22 @@ head-of ws = numbers (hd ws)
 -- 7: the graph is not clean, as its head says
 abbrev pub Unless-7 : List ℕ → Type 0 → Type 0 → Type 0
 Unless-7 ws No Next = Else (head-of ws .clean ≡ false) No (head-of ws .clean ≡ true) Next
+
+-- 9: the words are not whole as far as the call reads them
+abbrev pub Unless-9 : Type 0 → Type 0 → Type 0 → Type 0
+Unless-9 Whole No Next = Else (Whole → ⊥) No Whole Next
+
+-- a list that whole words read as: 9 where they are not whole, else 8 where the list xs is longer than out, both with out as it was; else xs stands at the start of out′
+abbrev pub ListAt : Type 0 → List ℕ → List ℕ → ListAnswer → List ℕ → Type 0
+ListAt Whole xs out r out′ = Unless-9 Whole ((list-says r ≡ no-by 9) × (out′ ≡ out)) (Lists xs out r out′)
+
+-- what is left for a list of a graph, once nothing before 9 refuses it: on any words what they read as, and on words that hold a graph its list
+pub record ListOpen (list : Graph → List ℕ) (Whole : Head → List ℕ → Type 0) (reads : Head → List ℕ → List ℕ) (ws out : List ℕ) (r : ListAnswer) (out′ : List ℕ) : Type 0 where
+  pub exact : ListAt (Whole (head-of ws) ws) (reads (head-of ws) ws) out r out′
+  pub inside : (k : ℕ) → r ≡ ListWords k → k ≤ length out
+  pub size : length out′ ≡ length out
+  pub refused : (k : ℕ) → list-says r ≡ no-by k → ((k ≡ 9) ⊎ (k ≡ 8)) × (out′ ≡ out)
+  pub sound : (g : Graph) → Holds ws g → Lists (list g) out r out′
 
 -- what the head says is what the graph says
 pub held-clean : {ws : List ℕ} {g : Graph} → Holds ws g → head-of ws .clean ≡ g .clean

@@ -1,5 +1,5 @@
--- What the calls on the classes of a clean graph promise: `total_number_of_nodes`, `classes_for_op` and `classes`. On any words 3 and 7 come exactly when document 01
--- says; what is left is an answer, or 9, which never comes on words that hold a graph, or for a list 8. A list that is refused leaves the slice lent for it as it was.
+-- What the calls on the classes of a clean graph promise: `total_number_of_nodes`, `classes_for_op` and `classes`. On any words 3, 7 and 9 come exactly when document 01
+-- says, and for a list 8; else the answer is what the words read as. 9 never comes on words that hold a graph. A list that is refused leaves the slice lent for it as it was.
 -- Assumes nothing.
 use mathlib.Core.Bool.{Bool, false, true}
 use mathlib.Core.List.{List, [], _∷_}
@@ -19,7 +19,7 @@ use Rattle.eclass.specs.Ops.{ops-are, ops-in}
 use Rattle.eclass.specs.Pieces.{Wrote, wrote-back, wrote-front}
 use Rattle.eclass.specs.declared.Total.{Total}
 use Rattle.eclass.specs.declared.Total.the-variants.{TotalBroken, TotalIs}
-use Rattle.egraph.specs.Answers.{Answer, Else, ListOpen, Lists, Unless-3, Unless-7, cleaned, count-says, head-of, held-clean, list-says, never, nine, no-by, opened, pass, shut, stop, unclean, yes-with}
+use Rattle.egraph.specs.Answers.{Answer, Else, ListAt, ListOpen, Lists, Unless-3, Unless-7, cleaned, count-says, head-of, held-clean, list-says, never, nine, no-by, opened, pass, shut, stop, unclean, yes-with}
 use Rattle.egraph.specs.Listing.{words≢not}
 use Rattle.egraph.specs.declared.CountAnswer.{CountAnswer}
 use Rattle.egraph.specs.declared.CountAnswer.the-variants.{CountIs, CountNot}
@@ -84,81 +84,86 @@ module _ (ws : List ℕ) (h : Head) (q : HeadIs (length ws) (hd ws) h) (c : h .c
 
 -- ---- lists
 
--- whatever the words, an answer counts words of out
-pub record ListSays (list : Graph → List ℕ) (ws out : List ℕ) (r : ListAnswer) (out′ : List ℕ) : Type 0 where
+-- whatever the words, an answer counts words of out. Words whose lists do not end, or lead outside the ids or to a broken row, are not whole; else reads is what they read as
+pub record ListSays (list : Graph → List ℕ) (reads : Head → List ℕ → List ℕ) (ws out : List ℕ) (r : ListAnswer) (out′ : List ℕ) : Type 0 where
   pub inside : (k : ℕ) → r ≡ ListWords k → k ≤ length out
   pub says :
       Unless-3 ws ((list-says r ≡ no-by 3) × (out′ ≡ out))
       (Unless-7 ws ((list-says r ≡ no-by 7) × (out′ ≡ out))
-      (ListOpen list ws out r out′))
+      (ListOpen list UnbrokenIn reads ws out r out′))
 
 -- in terms of a graph that the words hold
-pub list-held : (list : Graph → List ℕ) (ws : List ℕ) (g : Graph) → Holds ws g → (out : List ℕ) (r : ListAnswer) (out′ : List ℕ) → ListSays list ws out r out′
+pub list-held : (list : Graph → List ℕ) (reads : Head → List ℕ → List ℕ) (ws : List ℕ) (g : Graph) → Holds ws g → (out : List ℕ) (r : ListAnswer) (out′ : List ℕ) → ListSays list reads ws out r out′
     → Else (g .clean ≡ false) ((list-says r ≡ no-by 7) × (out′ ≡ out)) (g .clean ≡ true) (Lists (list g) out r out′)
-list-held list ws g H out r out′ s = let t = s .says .on (H .good) in record { no = λ e. t .no (held-clean H ∙ e); on = λ e. t .on (held-clean H ∙ e) .sound g H }
+list-held list reads ws g H out r out′ s = let t = s .says .on (H .good) in record { no = λ e. t .no (held-clean H ∙ e); on = λ e. t .on (held-clean H ∙ e) .sound g H }
 
 -- `classes_for_op`
 abbrev pub ForOpOpen : List ℕ → ℕ → List ℕ → ListAnswer → List ℕ → Type 0
-ForOpOpen ws o out r out′ = ListOpen (λ (g : Graph). classes-for-op g o) ws out r out′
+ForOpOpen ws o out r out′ = ListOpen (λ (g : Graph). classes-for-op g o) UnbrokenIn (λ (h : Head) (l : List ℕ). ops-in h l o) ws out r out′
 
 abbrev pub ForOpSays : List ℕ → ℕ → List ℕ → ListAnswer → List ℕ → Type 0
-ForOpSays ws o out r out′ = ListSays (λ (g : Graph). classes-for-op g o) ws out r out′
+ForOpSays ws o out r out′ = ListSays (λ (g : Graph). classes-for-op g o) (λ (h : Head) (l : List ℕ). ops-in h l o) ws out r out′
 
 -- `classes`
 abbrev pub ClassesOpen : List ℕ → List ℕ → ListAnswer → List ℕ → Type 0
-ClassesOpen = ListOpen classes
+ClassesOpen = ListOpen classes UnbrokenIn classes-in
 
 abbrev pub ClassesSays : List ℕ → List ℕ → ListAnswer → List ℕ → Type 0
-ClassesSays = ListSays classes
+ClassesSays = ListSays classes classes-in
 
 -- as the head is read
-module _ (list : Graph → List ℕ) (ws out : List ℕ) (r : HeadRead) (s : HeadSays (length ws) (hd ws) r) where
-  pub list-shut : r ≡ HeadBad → ListSays list ws out (ListNot BadHead) out
+module _ (list : Graph → List ℕ) (reads : Head → List ℕ → List ℕ) (ws out : List ℕ) (r : HeadRead) (s : HeadSays (length ws) (hd ws) r) where
+  pub list-shut : r ≡ HeadBad → ListSays list reads ws out (ListNot BadHead) out
   list-shut e = record { inside = λ k p. absurd (words≢not k BadHead (sym p)); says = shut ws r s e (refl, refl) }
 
   module _ (h : Head) (e : r ≡ HeadGood h) where
-    pub list-unclean : h .clean ≡ false → ListSays list ws out (ListNot NotRebuilt) out
+    pub list-unclean : h .clean ≡ false → ListSays list reads ws out (ListNot NotRebuilt) out
     list-unclean f = record { inside = λ k p. absurd (words≢not k NotRebuilt (sym p)); says = opened ws r s h e (λ q. unclean ws h q f (refl, refl)) }
 
-    pub list-opened : h .clean ≡ true → (a : ListAnswer) (out′ : List ℕ) → ListOpen list ws out a out′ → ListSays list ws out a out′
+    pub list-opened : h .clean ≡ true → (a : ListAnswer) (out′ : List ℕ) → ListOpen list UnbrokenIn reads ws out a out′ → ListSays list reads ws out a out′
     list-opened f a out′ o = record { inside = o .inside; says = opened ws r s h e (λ q. cleaned ws h q f o) }
 
-module _ (list : Graph → List ℕ) (ws : List ℕ) (h : Head) (q : HeadIs (length ws) (hd ws) h) (c : h .clean ≡ true) (out : List ℕ) where
-  pub list-broken : (b : Bool) → Says b (UnbrokenIn h ws) → b ≡ false → ListOpen list ws out (ListNot BrokenWords) out
+module _ (list : Graph → List ℕ) (reads : Head → List ℕ → List ℕ) (ws : List ℕ) (h : Head) (q : HeadIs (length ws) (hd ws) h) (c : h .clean ≡ true) (out : List ℕ) where
+  pub list-broken : (b : Bool) → Says b (UnbrokenIn h ws) → b ≡ false → ListOpen list UnbrokenIn reads ws out (ListNot BrokenWords) out
   list-broken b s e = record {
+    exact = subst (λ (k : Head). ListAt (UnbrokenIn k ws) (reads k ws) out (ListNot BrokenWords) out) (q .is) (stop (s .fails e) (λ a b. a b) (refl, refl));
     inside = λ k p. absurd (words≢not k BrokenWords (sym p));
     size = refl;
     refused = λ k p. (inl (nine k p), refl);
     sound = λ g H. absurd (s .fails e (unbroken (holds-in ws h g q H) (its-clean ws h q c g H)));
   }
 
-  -- xs is what the words read as, which for a graph that they hold is its list, and k how long it is
-  module _ (xs : List ℕ) (is : (g : Graph) → Holds ws g → xs ≡ list g) (k : ℕ) (e : k ≡ length xs) where
-    its-length : (g : Graph) → Holds ws g → k ≡ length (list g)
-    its-length g H = e ∙ ap length (is g H)
+  -- the words are whole; what they read as is for a graph that they hold its list, and k is how long it is
+  module _ (u : UnbrokenIn h ws) (is : (g : Graph) → Holds ws g → reads h ws ≡ list g) (k : ℕ) (e : k ≡ length (reads h ws)) where
+    told : (a : ListAnswer) (out′ : List ℕ) → Lists (reads h ws) out a out′ → ListAt (UnbrokenIn (head-of ws) ws) (reads (head-of ws) ws) out a out′
+    told a out′ L = subst (λ (s : Head). ListAt (UnbrokenIn s ws) (reads s ws) out a out′) (q .is) (pass u (λ b c. b c) L)
 
-    pub list-long : length out < k → ListOpen list ws out (ListNot TooLong) out
-    list-long l = record {
-      inside = λ j p. absurd (words≢not j TooLong (sym p));
-      size = refl;
-      refused = λ j p. (inr (sym (ap (λ (a : Answer). a .number) p)), refl);
-      sound = λ g H. let n = its-length g H in record { long = λ _. (refl, refl); fits = λ b. absurd (omega arith) };
-    }
+    held : (a : ListAnswer) (out′ : List ℕ) → Lists (reads h ws) out a out′ → (g : Graph) → Holds ws g → Lists (list g) out a out′
+    held a out′ L g H = subst (λ (xs : List ℕ). Lists xs out a out′) (is g H) L
 
-    pub list-written : k ≤ length out → (p : ℕ) (out′ : List ℕ) → Wrote out 0 xs p out′ → ListOpen list ws out (ListWords p) out′
-    list-written l p out′ w = record {
-      inside = λ j s. let t : j ≡ p = cc in omega (arith, w .next);
-      size = w .size;
-      refused = λ j s. absurd (never j p s);
-      sound = λ g H.
-          let n = its-length g H in
-          let m : p ≡ length (list g) = omega (arith, w .next) in
-          let v : Wrote out 0 (list g) p out′ = rw (is g H) at w in
-          record {
-            long = λ b. absurd (omega arith);
-            fits = λ b. (ap (λ (y : ℕ). yes-with (y ∷ [])) m, wrote-front v b, wrote-back v b);
-          };
-    }
+    pub list-long : length out < k → ListOpen list UnbrokenIn reads ws out (ListNot TooLong) out
+    list-long l =
+        let L : Lists (reads h ws) out (ListNot TooLong) out = record { long = λ _. (refl, refl); fits = λ b. absurd (omega arith) } in
+        record {
+          exact = told (ListNot TooLong) out L;
+          inside = λ j p. absurd (words≢not j TooLong (sym p));
+          size = refl;
+          refused = λ j p. (inr (sym (ap (λ (a : Answer). a .number) p)), refl);
+          sound = held (ListNot TooLong) out L;
+        }
+
+    pub list-written : k ≤ length out → (p : ℕ) (out′ : List ℕ) → Wrote out 0 (reads h ws) p out′ → ListOpen list UnbrokenIn reads ws out (ListWords p) out′
+    list-written l p out′ w =
+        let n : p ≡ length (reads h ws) = omega (arith, w .next) in
+        let L : Lists (reads h ws) out (ListWords p) out′ =
+        record { long = λ b. absurd (omega arith); fits = λ b. (ap (λ (y : ℕ). yes-with (y ∷ [])) n, wrote-front w b, wrote-back w b) } in
+        record {
+          exact = told (ListWords p) out′ L;
+          inside = λ j s. let t : j ≡ p = cc in omega arith;
+          size = w .size;
+          refused = λ j s. absurd (never j p s);
+          sound = held (ListWords p) out′ L;
+        }
 
 -- what the words say of the classes with an operator
 pub its-ops : (ws : List ℕ) (h : Head) → HeadIs (length ws) (hd ws) h → h .clean ≡ true → (o : ℕ) (g : Graph) → Holds ws g

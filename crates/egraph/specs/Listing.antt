@@ -1,10 +1,11 @@
--- What `id_to_node` and `nodes` promise. On any words 3 and 4 come exactly when document 01 says; what is left is an answer, or 9, which never comes on words that
--- hold a graph, or for a list 8. A list that is refused leaves the slice lent for it as it was.
+-- What `id_to_node` and `nodes` promise. On any words 3, 4 and 9 come exactly when document 01 says, and for a list 8; else the answer is what the rows read as. 9 never
+-- comes on words that hold a graph. A list that is refused leaves the slice lent for it as it was.
 -- Assumes nothing.
 use mathlib.Core.List.{List, [], _∷_}
 use mathlib.Core.Logic.{inl, inr}
-use mathlib.Core.Path.{_∙_, _≡_, ap, refl, sym}
+use mathlib.Core.Path.{_∙_, _≡_, ap, refl, subst, sym}
 use Prim.Native.Nat.{_+_, _<_, _≤_, ℕ}
+use native.Mathlib.Decide.{ℕ-discrete}
 use native.Mathlib.Omega.{arith}
 use lib.ListN.{length}
 use Rattle.lists.specs.Tests.{zero-one}
@@ -12,7 +13,7 @@ use Rattle.language.specs.Struct.{nodeOf}
 use Rattle.language.specs.Term.{Term, places, spell, words}
 use Rattle.steps.specs.Classes.{nodes}
 use Rattle.steps.specs.Graph.{Graph, node}
-use Rattle.egraph.specs.Answers.{Answer, Else, ListOpen, Unless-3, head-of, list-says, never, nine, no-by, node-says, number-of, yes-with}
+use Rattle.egraph.specs.Answers.{Answer, Else, ListAt, ListOpen, Lists, Unless-3, Unless-9, head-of, list-says, never, nine, no-by, node-says, number-of, pass, stop, yes-with}
 use Rattle.egraph.specs.Stored.{long-more, stored, stored-is}
 use Rattle.egraph.specs.declared.ListAnswer.{ListAnswer}
 use Rattle.egraph.specs.declared.ListAnswer.the-variants.{ListNot, ListWords}
@@ -27,7 +28,7 @@ use Rattle.layout.specs.View.{hd, view}
 use Rattle.layout.specs.declared.Head.{Head}
 use Rattle.rows.specs.Determined.{sane}
 use Rattle.rows.specs.Promise.{Given}
-use Rattle.rows.specs.Read.{Sane, given-read}
+use Rattle.rows.specs.Read.{Sane, given-read, sane-test}
 use Rattle.rows.specs.declared.Fetch.the-variants.{FetchBroken, FetchDone}
 use Rattle.rows.specs.declared.Fetched.{Fetched}
 use Rattle.spelling.specs.Listed.{Listed}
@@ -43,7 +44,18 @@ pub record NoNode (q : Refusal) (r : NodeAnswer) : Type 0 where
   pub few : r .node .count ≤ places
   pub leaf : nodeOf (r .node) ≡ leaf-0
 
+-- the row of an id lies within its area, as words with the head h have it, and the node that it reads as
+abbrev pub SaneIn : Head → List ℕ → ℕ → Type 0
+SaneIn h ws i = Sane (view (h .n) (h .m) ws .rows) (h .n) (h .m) i
+
+abbrev pub node-in : Head → List ℕ → ℕ → Term
+node-in h ws i = given-read (view (h .n) (h .m) ws .rows) (h .n) (h .m) i
+
+abbrev pub NodeAt : Head → List ℕ → ℕ → NodeAnswer → Type 0
+NodeAt h ws i r = Unless-9 (SaneIn h ws i) (node-says r ≡ no-by 9) (node-says r ≡ yes-with (words (node-in h ws i)))
+
 pub record NodeOpen (ws : List ℕ) (i : ℕ) (r : NodeAnswer) : Type 0 where
+  pub exact : NodeAt (head-of ws) ws i r
   pub few : r .node .count ≤ places
   pub blank : (q : Refusal) → r .out ≡ NodeNot q → nodeOf (r .node) ≡ leaf-0
   pub fair : (k : ℕ) → node-says r ≡ no-by k → k ≡ 9
@@ -67,6 +79,17 @@ is≢not q p = zero-one cc
 done≢broken : FetchDone ≡ FetchBroken → ⊥
 done≢broken p = zero-one cc
 
+-- a row lies within its area exactly where a read of it is done
+done-sane : (rs : List ℕ) (n m i : ℕ) (f : Fetched) → Given rs n m i f → f .out ≡ FetchDone → Sane rs n m i
+done-sane rs n m i f G e = go (sane-test rs n m i)
+  where
+    go : Dec (Sane rs n m i) → Sane rs n m i
+    go (yes s) = s
+    go (no s) = absurd (done≢broken (sym e ∙ G .broken s))
+
+broken-insane : (rs : List ℕ) (n m i : ℕ) (f : Fetched) → Given rs n m i f → f .out ≡ FetchBroken → Sane rs n m i → ⊥
+broken-insane rs n m i f G e s = done≢broken (sym (G .done s) ∙ e)
+
 module _ (ws : List ℕ) (h : Head) (q : HeadIs (length ws) (hd ws) h) (i : ℕ) (f : Fetched) (G : Given (view (h .n) (h .m) ws .rows) (h .n) (h .m) i f) (hi : i < h .ids) where
   -- what the rows answer on words that hold a graph
   law : (g : Graph) → Holds ws g → (f .out ≡ FetchDone) × (nodeOf (f .node) ≡ node (g .nodes) i)
@@ -75,14 +98,16 @@ module _ (ws : List ℕ) (h : Head) (q : HeadIs (length ws) (hd ws) h) (i : ℕ)
 
   pub node-broken : f .out ≡ FetchBroken → (r : NodeAnswer) → NoNode BrokenWords r → NodeOpen ws i r
   node-broken e r n = record {
+    exact = subst (λ (s : Head). NodeAt s ws i r) (q .is) (stop (broken-insane _ _ _ i f G e) (λ a b. a b) (no-says BrokenWords r n));
     few = n .few;
     blank = λ p s. n .leaf;
     fair = λ k p. nine k (sym (no-says BrokenWords r n) ∙ p);
     sound = λ g H. absurd (done≢broken (sym (law g H .0) ∙ e));
   }
 
-  pub node-is : NodeOpen ws i (record { out = NodeIs; node = f .node })
-  node-is = record {
+  pub node-is : f .out ≡ FetchDone → NodeOpen ws i (record { out = NodeIs; node = f .node })
+  node-is e = record {
+    exact = subst (λ (s : Head). NodeAt s ws i (record { out = NodeIs; node = f .node })) (q .is) (pass (done-sane _ _ _ i f G e) (λ a b. a b) (ap (λ (t : Term). yes-with (words t)) (G .exact)));
     few = G .few;
     blank = λ p s. absurd (is≢not p s);
     fair = λ k p. absurd (never k _ p);
@@ -91,22 +116,31 @@ module _ (ws : List ℕ) (h : Head) (q : HeadIs (length ws) (hd ws) h) (i : ℕ)
 
 -- ---- all of them
 
+-- all rows lie within their area, and the words of the nodes that they read as
+abbrev pub RowsIn : Head → List ℕ → Type 0
+RowsIn h ws = (i : ℕ) → i < h .ids → SaneIn h ws i
+
+abbrev pub nodes-in : Head → List ℕ → List ℕ
+nodes-in h ws = spell (stored (view (h .n) (h .m) ws .rows) (h .n) (h .m) (h .ids))
+
 abbrev pub NodesOpen : List ℕ → List ℕ → ListAnswer → List ℕ → Type 0
-NodesOpen = ListOpen nodes
+NodesOpen = ListOpen nodes RowsIn nodes-in
 
 -- whatever the words, an answer counts words of out
 pub record NodesSays (ws out : List ℕ) (r : ListAnswer) (out′ : List ℕ) : Type 0 where
   pub inside : (k : ℕ) → r ≡ ListWords k → k ≤ length out
   pub says : Unless-3 ws ((list-says r ≡ no-by 3) × (out′ ≡ out)) (NodesOpen ws out r out′)
 
--- how long a row is in words, and how long all of the first k together; no row among them is broken
+-- how long a row is in words, and how long all of the first k together, where no row among them is broken
 pub record RowWords (rs : List ℕ) (n m i : ℕ) (r : ListAnswer) : Type 0 where
   pub whole : (x : ℕ) → r ≡ ListWords x → x ≡ length (words (given-read rs n m i))
   pub few : (x : ℕ) → r ≡ ListWords x → x ≤ 3 + places
+  pub sane : (x : ℕ) → r ≡ ListWords x → Sane rs n m i
   pub broken : (q : Refusal) → r ≡ ListNot q → (q ≡ BrokenWords) × (Sane rs n m i → ⊥)
 
 pub record Measured (rs : List ℕ) (n m k : ℕ) (r : ListAnswer) : Type 0 where
   pub whole : (x : ℕ) → r ≡ ListWords x → x ≡ length (spell (stored rs n m k))
+  pub sane : (x : ℕ) → r ≡ ListWords x → (i : ℕ) → i < k → Sane rs n m i
   pub broken : (q : Refusal) → r ≡ ListNot q → (q ≡ BrokenWords) × (((i : ℕ) → i < k → Sane rs n m i) → ⊥)
 
 pub words≢not : (x : ℕ) (q : Refusal) → ListWords x ≡ ListNot q → ⊥
@@ -117,13 +151,15 @@ module _ (rs : List ℕ) (n m i : ℕ) (f : Fetched) (G : Given rs n m i f) wher
   row-broken e = record {
     whole = λ x p. absurd (words≢not x BrokenWords (sym p));
     few = λ x p. absurd (words≢not x BrokenWords (sym p));
-    broken = λ q p. (cc, λ s. done≢broken (sym (G .done s) ∙ e));
+    sane = λ x p. absurd (words≢not x BrokenWords (sym p));
+    broken = λ q p. (cc, broken-insane rs n m i f G e);
   }
 
-  pub row-words : (x : ℕ) → (x ≡ length (words (nodeOf (f .node)))) × (x ≡ 3 + f .node .count) → RowWords rs n m i (ListWords x)
-  row-words x e = record {
+  pub row-words : f .out ≡ FetchDone → (x : ℕ) → (x ≡ length (words (nodeOf (f .node)))) × (x ≡ 3 + f .node .count) → RowWords rs n m i (ListWords x)
+  row-words d x e = record {
     whole = λ y p. let s : y ≡ x = cc in s ∙ rw (← G .exact) (e .0);
     few = λ y p. let s : y ≡ x = cc in omega (arith, e .1, G .few);
+    sane = λ y p. done-sane rs n m i f G d;
     broken = λ q p. absurd (words≢not x q p);
   }
 
@@ -132,16 +168,28 @@ pub measure-more : (rs : List ℕ) (n m i total x : ℕ) (r : ListAnswer) → Ro
     → total + x ≡ length (spell (stored rs n m (i + 1)))
 measure-more rs n m i total x r w e t = omega (arith, w .whole x e, long-more rs n m i)
 
+pub sane-none : (rs : List ℕ) (n m j : ℕ) → j < 0 → Sane rs n m j
+sane-none rs n m j h = absurd (omega arith)
+
+pub sane-more : (rs : List ℕ) (n m i x : ℕ) (r : ListAnswer) → RowWords rs n m i r → r ≡ ListWords x → ((j : ℕ) → j < i → Sane rs n m j) → (j : ℕ) → j < i + 1 → Sane rs n m j
+sane-more rs n m i x r w e f j h = go (ℕ-discrete j i)
+  where
+    go : Dec (j ≡ i) → Sane rs n m j
+    go (yes p) = rw p (w .sane x e)
+    go (no p) = f j (omega arith)
+
 module _ (rs : List ℕ) (n m k : ℕ) where
   pub measure-broken : (i : ℕ) → i < k → (r : ListAnswer) (q : Refusal) → RowWords rs n m i r → r ≡ ListNot q → Measured rs n m k (ListNot q)
   measure-broken i h r q w e = record {
     whole = λ x p. absurd (words≢not x q (sym p));
+    sane = λ x p. absurd (words≢not x q (sym p));
     broken = λ p s. let t : q ≡ p = cc in (sym t ∙ w .broken q e .0, λ a. w .broken q e .1 (a i h));
   }
 
-  pub measure-whole : (x : ℕ) → x ≡ length (spell (stored rs n m k)) → Measured rs n m k (ListWords x)
-  measure-whole x e = record {
+  pub measure-whole : (x : ℕ) → x ≡ length (spell (stored rs n m k)) → ((i : ℕ) → i < k → Sane rs n m i) → Measured rs n m k (ListWords x)
+  measure-whole x e f = record {
     whole = λ y p. let t : y ≡ x = cc in t ∙ e;
+    sane = λ y p. f;
     broken = λ q p. absurd (words≢not x q p);
   }
 
@@ -158,36 +206,50 @@ module _ (ws : List ℕ) (h : Head) (q : HeadIs (length ws) (hd ws) h) (out : Li
 
   module _ (r : ListAnswer) (M : Measured rs (h .n) (h .m) (h .ids) r) where
     pub nodes-broken : (p : Refusal) → r ≡ ListNot p → NodesOpen ws out (ListNot p) out
-    nodes-broken p e = record {
-      inside = λ k s. absurd (words≢not k p (sym s));
-      size = refl;
-      refused = λ k s. (inl (nine k (ap (λ (t : Refusal). no-by (number-of t)) (sym (M .broken p e .0)) ∙ s)), refl);
-      sound = λ g H. absurd (M .broken p e .1 (its-rows g H));
-    }
+    nodes-broken p e =
+        let nine-is : no-by (number-of p) ≡ no-by 9 = ap (λ (t : Refusal). no-by (number-of t)) (M .broken p e .0) in
+        record {
+          exact = subst (λ (s : Head). ListAt (RowsIn s ws) (nodes-in s ws) out (ListNot p) out) (q .is) (stop (M .broken p e .1) (λ a b. a b) (nine-is, refl));
+          inside = λ k s. absurd (words≢not k p (sym s));
+          size = refl;
+          refused = λ k s. (inl (nine k (sym nine-is ∙ s)), refl);
+          sound = λ g H. absurd (M .broken p e .1 (its-rows g H));
+        }
 
-    pub nodes-long : (x : ℕ) → r ≡ ListWords x → length out < x → NodesOpen ws out (ListNot TooLong) out
-    nodes-long x e l = record {
-      inside = λ k s. absurd (words≢not k TooLong (sym s));
-      size = refl;
-      refused = λ k s. (inr (sym (ap (λ (a : Answer). a .number) s)), refl);
-      sound = λ g H.
-          let n : x ≡ length (nodes g) = M .whole x e ∙ ap (λ (ts : List Term). length (spell ts)) (its-nodes g H) in
-          record { long = λ _. (refl, refl); fits = λ b. absurd (omega arith) };
-    }
+    module _ (x : ℕ) (e : r ≡ ListWords x) where
+      -- the list of whole rows, and of a graph that they hold
+      told : (a : ListAnswer) (out′ : List ℕ) → Lists (nodes-in h ws) out a out′ → ListAt (RowsIn (head-of ws) ws) (nodes-in (head-of ws) ws) out a out′
+      told a out′ L = subst (λ (s : Head). ListAt (RowsIn s ws) (nodes-in s ws) out a out′) (q .is) (pass (M .sane x e) (λ b c. b c) L)
 
-    pub nodes-fit : (x : ℕ) → r ≡ ListWords x → x ≤ length out → length (spell (stored rs (h .n) (h .m) (h .ids))) ≤ length out
-    nodes-fit x e l = omega (arith, M .whole x e)
+      held : (a : ListAnswer) (out′ : List ℕ) → Lists (nodes-in h ws) out a out′ → (g : Graph) → Holds ws g → Lists (nodes g) out a out′
+      held a out′ L g H = subst (λ (ts : List Term). Lists (spell ts) out a out′) (its-nodes g H) L
 
-    pub nodes-listed : (x : ℕ) → r ≡ ListWords x → x ≤ length out → (p : ℕ) (out′ : List ℕ) → Listed out (stored rs (h .n) (h .m) (h .ids)) p out′ → NodesOpen ws out (ListWords p) out′
-    nodes-listed x e l p out′ L = record {
-      inside = λ k s. let t : k ≡ p = cc in omega (arith, M .whole x e, L .place);
-      size = L .size;
-      refused = λ k s. absurd (never k p s);
-      sound = λ g H.
-          let L2 : Listed out (g .nodes) p out′ = rw (its-nodes g H) at L in
-          let n : p ≡ length (nodes g) = L2 .place in
+      pub nodes-long : length out < x → NodesOpen ws out (ListNot TooLong) out
+      nodes-long l =
+          let L : Lists (nodes-in h ws) out (ListNot TooLong) out = record { long = λ _. (refl, refl); fits = λ b. absurd (omega (arith, M .whole x e)) } in
           record {
-            long = λ b. absurd (omega (arith, M .whole x e, L .place));
-            fits = λ _. (ap (λ (y : ℕ). yes-with (y ∷ [])) n, rw n at (L2 .front), rw n at (L2 .back));
-          };
-    }
+            exact = told (ListNot TooLong) out L;
+            inside = λ k s. absurd (words≢not k TooLong (sym s));
+            size = refl;
+            refused = λ k s. (inr (sym (ap (λ (a : Answer). a .number) s)), refl);
+            sound = held (ListNot TooLong) out L;
+          }
+
+      pub nodes-fit : x ≤ length out → length (nodes-in h ws) ≤ length out
+      nodes-fit l = omega (arith, M .whole x e)
+
+      pub nodes-listed : x ≤ length out → (p : ℕ) (out′ : List ℕ) → Listed out (stored rs (h .n) (h .m) (h .ids)) p out′ → NodesOpen ws out (ListWords p) out′
+      nodes-listed l p out′ S =
+          let n : p ≡ length (nodes-in h ws) = S .place in
+          let L : Lists (nodes-in h ws) out (ListWords p) out′ =
+          record {
+            long = λ b. absurd (omega (arith, M .whole x e));
+            fits = λ _. (ap (λ (y : ℕ). yes-with (y ∷ [])) n, rw n at (S .front), rw n at (S .back));
+          } in
+          record {
+            exact = told (ListWords p) out′ L;
+            inside = λ k s. let t : k ≡ p = cc in omega (arith, M .whole x e, S .place);
+            size = S .size;
+            refused = λ k s. absurd (never k p s);
+            sound = held (ListWords p) out′ L;
+          }

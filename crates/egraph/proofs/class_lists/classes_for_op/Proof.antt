@@ -20,13 +20,13 @@ same-length : tie.Need-same-length
 same-length c = search needs
 
 returns : tie.Need-returns
-returns c = list-opened _ _ _ _ (c .before .before .before .before .before .before .before .before .read-head .ensures) _ (c .before .before .before .before .before .before .h .given .1) (c .before .before .before .before .if1 .taken) _ _ (c .before .before .for-op-open .ensures)
+returns c = list-opened _ _ _ _ _ (c .before .before .before .before .before .before .before .before .read-head .ensures) _ (c .before .before .before .before .before .before .h .given .1) (c .before .before .before .before .if1 .taken) _ _ (c .before .before .for-op-open .ensures)
 
 returns-2 : tie.Need-returns-2
-returns-2 c = list-shut _ _ _ _ (c .before .before .read-head .ensures) (c .enum-told .given .1)
+returns-2 c = list-shut _ _ _ _ _ (c .before .before .read-head .ensures) (c .enum-told .given .1)
 
 returns-3 : tie.Need-returns-3
-returns-3 c = list-unclean _ _ _ _ (c .before .before .before .before .read-head .ensures) _ (c .before .before .h .given .1) (c .if1 .left)
+returns-3 c = list-unclean _ _ _ _ _ (c .before .before .before .before .read-head .ensures) _ (c .before .before .h .given .1) (c .if1 .left)
 
 pub classes-for-op-spec : {M : Type 1} → statement M
 classes-for-op-spec =

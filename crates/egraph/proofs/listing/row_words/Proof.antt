@@ -7,7 +7,7 @@ returns : tie.Need-returns
 returns c = row-broken _ _ _ _ _ (c .before .before .given .ensures) (c .enum-told .given .1)
 
 returns-2 : tie.Need-returns-2
-returns-2 c = row-words _ _ _ _ _ (c .before .before .before .given .ensures) _ (c .node-length .ensures)
+returns-2 c = row-words _ _ _ _ _ (c .before .before .before .given .ensures) (c .before .enum-told2 .given .1) _ (c .node-length .ensures)
 
 pub row-words-spec : {M : Type 1} → statement M
 row-words-spec =
