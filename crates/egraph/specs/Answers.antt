@@ -37,7 +37,7 @@ use Rattle.holds.specs.Inside.{Near}
 use Rattle.layout.specs.Cut.{need}
 use Rattle.layout.specs.Head.{GoodHead, HeadIs, HeadOk, HeadSays, head-bad, head-good, head-is, numbers}
 use Rattle.layout.specs.View.{View, hd, view, view-rest}
-use Rattle.layout.specs.Written.{Noted, head-written, noted-hd, written}
+use Rattle.layout.specs.Written.{Noted, head-written, noted-hd, numbers-written, spare-written, written}
 use Rattle.layout.specs.declared.Head.{Head}
 use Rattle.layout.specs.declared.HeadRead.{HeadRead}
 use Rattle.layout.specs.declared.HeadRead.the-variants.{HeadBad, HeadGood}
@@ -238,6 +238,28 @@ pub limits-written : (ws ws1 ws2 : List ℕ) (h k : Head) {len : ℕ} → HeadIs
 limits-written ws ws1 ws2 h k q near ok N =
     let p : k ≡ numbers (hd ws2) = rw (noted-hd N) (head-written (length ws1) (hd ws1) k ok .is) in
     (sym (ap (λ (s : Head). s .n) p) ∙ near .n-is ∙ ap (λ (s : Head). s .n) (q .is), sym (ap (λ (s : Head). s .m) p) ∙ near .m-is ∙ ap (λ (s : Head). s .m) (q .is))
+
+-- the ids and the places in use, which only an add changes
+abbrev pub SameCounts : List ℕ → List ℕ → Type 0
+SameCounts ws ws′ = (head-of ws′ .ids ≡ head-of ws .ids) × (head-of ws′ .places ≡ head-of ws .places)
+
+pub counts-stay : (ws ws′ : List ℕ) → hd ws′ ≡ hd ws → SameCounts ws ws′
+counts-stay ws ws′ e = (ap (λ (l : List ℕ). numbers l .ids) e, ap (λ (l : List ℕ). numbers l .places) e)
+
+pub counts-written : (ws ws1 ws2 : List ℕ) (h k : Head) {len : ℕ} → HeadIs (length ws) (hd ws) h → NearIds len h k → Noted ws1 ws2 (written (hd ws1) k) → SameCounts ws ws2
+counts-written ws ws1 ws2 h k q near N =
+    let p : numbers (hd ws2) ≡ k = rw (noted-hd N) (numbers-written (hd ws1) k) in
+    (ap (λ (s : Head). s .ids) p ∙ near .ids-is ∙ ap (λ (s : Head). s .ids) (q .is), ap (λ (s : Head). s .places) p ∙ near .places-is ∙ ap (λ (s : Head). s .places) (q .is))
+
+-- the spare words of the head, which no call but setup writes
+abbrev pub spare-of : List ℕ → List ℕ
+spare-of ws = drop 7 (hd ws)
+
+pub spare-stay : (ws ws′ : List ℕ) → hd ws′ ≡ hd ws → spare-of ws′ ≡ spare-of ws
+spare-stay ws ws′ e = ap (λ (l : List ℕ). drop 7 l) e
+
+pub spare-noted : (ws ws1 ws2 : List ℕ) (k : Head) → hd ws1 ≡ hd ws → Noted ws1 ws2 (written (hd ws1) k) → spare-of ws2 ≡ spare-of ws
+spare-noted ws ws1 ws2 k e N = ap (λ (l : List ℕ). drop 7 l) (noted-hd N) ∙ spare-written (hd ws1) k ∙ spare-stay ws ws1 e
 
 -- the head written back, with numbers near those that were read: the words hold what the parts hold
 pub written-back : (ws ws1 ws2 : List ℕ) (h k : Head) → length ws1 ≡ length ws → NearIds (length ws) h k → Noted ws1 ws2 (written (hd ws1) k)

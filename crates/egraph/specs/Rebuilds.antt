@@ -14,7 +14,7 @@ use Rattle.steps.specs.Machine.{Rebuild}
 use Rattle.closure.specs.Closed.{clean-empty, one-outcome}
 use Rattle.closure.specs.Kept.{made-good}
 use Rattle.closure.specs.Slots.{made-keyed}
-use Rattle.egraph.specs.Answers.{SameLimits, Unless-3, count-says, limits-stay, limits-written, never, nine, no-by, ok-still, past, past-rest, scratch-of, scratch-still, written-back, yes-with}
+use Rattle.egraph.specs.Answers.{SameCounts, SameLimits, Unless-3, count-says, counts-stay, counts-written, limits-stay, limits-written, never, nine, no-by, ok-still, past, past-rest, scratch-of, scratch-still, spare-noted, spare-of, spare-stay, written-back, yes-with}
 use Rattle.egraph.specs.declared.CountAnswer.{CountAnswer}
 use Rattle.egraph.specs.declared.CountAnswer.the-variants.{CountIs, CountNot}
 use Rattle.egraph.specs.declared.Refusal.the-variants.{BrokenWords}
@@ -37,6 +37,8 @@ pub record RebuildOpen (ws : List ℕ) (r : CountAnswer) (ws′ : List ℕ) : Ty
   pub rest : past ws ws′ ≡ past ws ws
   pub scratch : scratch-of ws ws′ ≡ scratch-of ws ws
   pub limits : SameLimits ws ws′
+  pub counts : SameCounts ws ws′
+  pub spare : spare-of ws′ ≡ spare-of ws
   pub fair : (k : ℕ) → count-says r ≡ no-by k → k ≡ 9
   pub sound : (g : Graph) (us : List (ℕ × ℕ)) → Holds ws g → Made us g → (y t : ℕ) (z : Graph) → Rebuild g y t z → (count-says r ≡ yes-with (y ∷ [])) × Holds ws′ z
 
@@ -63,6 +65,8 @@ module _ (ws : List ℕ) (h : Head) (q : HeadIs (length ws) (hd ws) h) (ws1 : Li
     rest = past-rest ws h q ws1 (R .inside .rest);
     scratch = scratch-still ws h q ws1 (R .inside .scratch);
     limits = limits-stay ws ws1 (R .inside .head);
+    counts = counts-stay ws ws1 (R .inside .head);
+    spare = spare-stay ws ws1 (R .inside .head);
     fair = nine;
     sound = λ g us H M y t z B. let b = told g us H M .answer in zero-one cc;
   }
@@ -78,6 +82,8 @@ module _ (ws : List ℕ) (h : Head) (q : HeadIs (length ws) (hd ws) h) (ws1 : Li
       rest = past-rest ws h q ws2 (ap (λ (v : View). v .rest) (N .else (h .n) (h .m)) ∙ R .inside .rest);
       scratch = scratch-still ws h q ws2 (ap (λ (v : View). v .scratch) (N .else (h .n) (h .m)) ∙ R .inside .scratch);
       limits = limits-written ws ws1 ws2 h k q (rebuild-near .near) (ok-still (rebuild-near .near) (R .inside .size)) N;
+      counts = counts-written ws ws1 ws2 h k q rebuild-near N;
+      spare = spare-noted ws ws1 ws2 k (R .inside .head) N;
       fair = λ x p. absurd (never x yes p);
       sound = λ g us H M y t z B.
           let b = told g us H M in

@@ -11,7 +11,7 @@ use lib.ListN.{length}
 use Rattle.lists.specs.Tests.{zero-one}
 use Rattle.steps.specs.Graph.{Graph}
 use Rattle.steps.specs.Machine.{union}
-use Rattle.egraph.specs.Answers.{Else, SameLimits, Unless-3, flag, head-of, limits-stay, limits-written, never, nine, no-by, ok-still, past, past-rest, scratch-of, scratch-still, union-says, written-back, yes-with}
+use Rattle.egraph.specs.Answers.{Else, SameCounts, SameLimits, Unless-3, counts-stay, counts-written, flag, head-of, limits-stay, limits-written, never, nine, no-by, ok-still, past, past-rest, scratch-of, scratch-still, spare-noted, spare-of, spare-stay, union-says, written-back, yes-with}
 use Rattle.egraph.specs.declared.Refusal.the-variants.{BrokenWords}
 use Rattle.egraph.specs.declared.UnionAnswer.{UnionAnswer}
 use Rattle.egraph.specs.declared.UnionAnswer.the-variants.{UnionNo, UnionNot, UnionYes}
@@ -31,6 +31,8 @@ pub record UnionOpen (ws : List ℕ) (i j : ℕ) (r : UnionAnswer) (ws′ : List
   pub rest : past ws ws′ ≡ past ws ws
   pub scratch : scratch-of ws ws′ ≡ scratch-of ws ws
   pub limits : SameLimits ws ws′
+  pub counts : SameCounts ws ws′
+  pub spare : spare-of ws′ ≡ spare-of ws
   pub fair : (k : ℕ) → union-says r ≡ no-by k → k ≡ 9
   pub sound : (g : Graph) → Holds ws g → (union-says r ≡ yes-with (flag (union g i j .answer))) × Holds ws′ (union g i j .graph)
 
@@ -54,6 +56,8 @@ module _ (ws : List ℕ) (h : Head) (q : HeadIs (length ws) (hd ws) h) (i j : �
     rest = past-rest ws h q ws1 (U .inside .rest);
     scratch = scratch-still ws h q ws1 (U .inside .scratch);
     limits = limits-stay ws ws1 (U .inside .head);
+    counts = counts-stay ws ws1 (U .inside .head);
+    spare = spare-stay ws ws1 (U .inside .head);
     fair = nine;
     sound = λ g H. let s = U .sound g (h .places) (holds-in ws h g q H) in absurd (lost (union g i j .answer) (s .0) (sym e ∙ s .1));
   }
@@ -82,6 +86,8 @@ module _ (ws : List ℕ) (h : Head) (q : HeadIs (length ws) (hd ws) h) (i j : �
       rest = rest2;
       scratch = scratch2;
       limits = limits-written ws ws1 ws2 h k q (N2 .near) (ok-still (N2 .near) (U .inside .size)) N;
+      counts = counts-written ws ws1 ws2 h k q N2 N;
+      spare = spare-noted ws ws1 ws2 k (U .inside .head) N;
       fair = λ x p. absurd (never x 1 p);
       sound = λ g H. let s = U .sound g (h .places) (holds-in ws h g q H) in go g (union g i j .answer) refl (s .0) (sym e ∙ s .1) (s .2);
     }
@@ -97,6 +103,8 @@ module _ (ws : List ℕ) (h : Head) (q : HeadIs (length ws) (hd ws) h) (i j : �
       rest = rest2;
       scratch = scratch2;
       limits = limits-written ws ws1 ws2 h k q (N2 .near) (ok-still (N2 .near) (U .inside .size)) N;
+      counts = counts-written ws ws1 ws2 h k q N2 N;
+      spare = spare-noted ws ws1 ws2 k (U .inside .head) N;
       fair = λ x p. absurd (never x 0 p);
       sound = λ g H. let s = U .sound g (h .places) (holds-in ws h g q H) in go g (union g i j .answer) refl (s .0) (sym e ∙ s .1) (s .2);
     }
