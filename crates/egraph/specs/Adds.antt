@@ -1,6 +1,6 @@
 -- What `lookup`, `add_uncanonical` and `add` promise: 3, 5 and 4 exactly when document 01 says, in this order and with no word changed. After that a node that the table
--- has is found, also in a full graph; a node that it has not is added where there is room, and refused by 6, with no word changed, where there is none. What is left is 9,
--- which never comes on words that hold a graph.
+-- has is found, also in a full graph; a node that it has not is added where there is room, and refused by 6, with no word changed, where there is none, and on any words only
+-- there. What is left is 9, which never comes on words that hold a graph.
 -- Assumes nothing.
 use mathlib.Core.List.{List, [], _∷_}
 use mathlib.Core.Logic.{_≢_, _⊎_, inl, inr}
@@ -23,7 +23,7 @@ use Rattle.adding.specs.declared.Gave.the-variants.{GaveBroken, GaveFull, GaveN
 use Rattle.adding.specs.declared.Probed.{Probed}
 use Rattle.adding.specs.declared.Seen.the-variants.{SeenAt, SeenBroken, SeenNone}
 use Rattle.unionfind.specs.declared.Found.{Found}
-use Rattle.egraph.specs.Answers.{Answer, Else, Good, SameLimits, Unless-3, add-says, head-of, ids-is, limits-stay, limits-written, lookup-says, never, nine, no-by, number-of, ok-still, pass, past, past-rest, scratch-of, scratch-still, stop, yes-with}
+use Rattle.egraph.specs.Answers.{Answer, Else, Good, SameLimits, Unless-3, add-says, head-of, ids-is, limits-stay, limits-written, lookup-says, never, nine, no-by, number-of, ok-still, pass, past, past-rest, scratch-of, scratch-still, spare-noted, spare-of, spare-stay, stop, yes-with}
 use Rattle.egraph.specs.declared.AddAnswer.{AddAnswer}
 use Rattle.egraph.specs.declared.AddAnswer.the-variants.{AddId, AddNot}
 use Rattle.egraph.specs.declared.Gate.{Gate}
@@ -163,7 +163,9 @@ pub record Adding (id : Graph → ℕ) (ws : List ℕ) (x : Term) (r : AddAnswer
   pub rest : past ws ws′ ≡ past ws ws
   pub scratch : scratch-of ws ws′ ≡ scratch-of ws ws
   pub limits : SameLimits ws ws′
+  pub spare : spare-of ws′ ≡ spare-of ws
   pub fair : (k : ℕ) → add-says r ≡ no-by k → (k ≡ 9) ⊎ ((k ≡ 6) × (ws′ ≡ ws))
+  pub full : add-says r ≡ no-by 6 → Full (head-of ws) x
   pub found : (g : Graph) (i : ℕ) → Holds ws g → kept-for g x ≡ some i → (add-says r ≡ yes-with (id g ∷ [])) × (ws′ ≡ ws)
   pub shut : (g : Graph) → Holds ws g → kept-for g x ≡ none → Full (head-of ws) x → (add-says r ≡ no-by 6) × (ws′ ≡ ws)
   pub grown : (g : Graph) → Holds ws g → kept-for g x ≡ none → Room (head-of ws) x → (add-says r ≡ yes-with (id g ∷ [])) × Holds ws′ (add-uncanonical g x .graph)
@@ -213,6 +215,9 @@ pub add-new : (g : Graph) (x : Term) → length (g .roots) ≡ ids g → kept-fo
 unfolding add grow
 add-new g x l e = ap (λ (a : Given). root (a .graph .roots) (a .id)) (given-new g x e) ∙ root-more (g .roots) (ids g) (ids g) l ∙ root-out (g .roots) (ids g) (omega arith)
 
+nine-not-6 : _≡_ {A = Answer} (no-by 9) (no-by 6) → ⊥
+nine-not-6 e = omega (arith, nine 6 e)
+
 module _ (id : Graph → ℕ) (ws : List ℕ) (h : Head) (q : HeadIs (length ws) (hd ws) h) (x : Term) (ws1 : List ℕ) (u : Gave) (U : Gives h x ws u ws1) where
   full-in : Full (head-of ws) x → Full h x
   full-in f = subst (λ (s : Head). Full s x) (sym (q .is)) f
@@ -226,7 +231,9 @@ module _ (id : Graph → ℕ) (ws : List ℕ) (h : Head) (q : HeadIs (length ws)
     rest = past-rest ws h q ws1 (U .inside .rest);
     scratch = scratch-still ws h q ws1 (U .inside .scratch);
     limits = limits-stay ws ws1 (U .inside .head);
+    spare = spare-stay ws ws1 (U .inside .head);
     fair = λ k s. inl (nine k s);
+    full = λ s. absurd (nine-not-6 s);
     found = λ g i H k. let a = U .found g i (holds-in ws h g q H) k in zero-one cc;
     shut = λ g H k f. let a = U .shut g (holds-in ws h g q H) k (full-in f) in zero-one cc;
     grown = λ g H k f. let a = U .grown g (holds-in ws h g q H) k (room-in f) .1 in zero-one cc;
@@ -238,7 +245,9 @@ module _ (id : Graph → ℕ) (ws : List ℕ) (h : Head) (q : HeadIs (length ws)
     rest = past-rest ws h q ws1 (U .inside .rest);
     scratch = scratch-still ws h q ws1 (U .inside .scratch);
     limits = limits-stay ws ws1 (U .inside .head);
+    spare = spare-stay ws ws1 (U .inside .head);
     fair = λ k s. inr (sym (ap (λ (a : Answer). a .number) s), U .full e .1);
+    full = λ _. subst (λ (s : Head). Full s x) (q .is) (U .full e .0);
     found = λ g i H k. let a = U .found g i (holds-in ws h g q H) k in zero-one cc;
     shut = λ g H k f. (refl, U .full e .1);
     grown = λ g H k f. let a = U .grown g (holds-in ws h g q H) k (room-in f) .1 in zero-one cc;
@@ -261,7 +270,9 @@ module _ (id : Graph → ℕ) (ws : List ℕ) (h : Head) (q : HeadIs (length ws)
       rest = past-rest ws h q ws1 (U .inside .rest);
       scratch = scratch-still ws h q ws1 (U .inside .scratch);
       limits = limits-stay ws ws1 (U .inside .head);
+      spare = spare-stay ws ws1 (U .inside .head);
       fair = λ k s. absurd (never k v s);
+      full = λ s. absurd (never 6 v s);
       found = λ g i H k. (ap (λ (j : ℕ). yes-with (j ∷ [])) (sym (w g H (k ∙ ap some (old-is g i H k)))), U .old y e .1);
       shut = λ g H k f. absurd (not-shut g H k f);
       grown = λ g H k f. absurd (not-grown g H k f);
@@ -280,7 +291,9 @@ module _ (id : Graph → ℕ) (ws : List ℕ) (h : Head) (q : HeadIs (length ws)
         rest = past-rest ws h q ws1 (U .inside .rest);
         scratch = scratch-still ws h q ws1 (U .inside .scratch);
         limits = limits-stay ws ws1 (U .inside .head);
+        spare = spare-stay ws ws1 (U .inside .head);
         fair = λ k s. inl (nine k s);
+        full = λ s. absurd (nine-not-6 s);
         found = λ g i H k. let a = find-law g H in zero-one cc;
         shut = λ g H k s. absurd (not-shut g H k s);
         grown = λ g H k s. absurd (not-grown g H k s);
@@ -293,7 +306,9 @@ module _ (id : Graph → ℕ) (ws : List ℕ) (h : Head) (q : HeadIs (length ws)
     rest = past-rest ws h q ws2 (ap (λ (v : View). v .rest) (N .else (h .n) (h .m)) ∙ U .inside .rest);
     scratch = scratch-still ws h q ws2 (ap (λ (v : View). v .scratch) (N .else (h .n) (h .m)) ∙ U .inside .scratch);
     limits = limits-written ws ws1 ws2 h k q N2 (ok-still N2 (U .inside .size)) N;
+    spare = spare-noted ws ws1 ws2 k (U .inside .head) N;
     fair = λ j s. absurd (never j (h .ids) s);
+    full = λ s. absurd (never 6 (h .ids) s);
     found = λ g i H m. let a = U .found g i (holds-in ws h g q H) m in zero-one cc;
     shut = λ g H m f. let a = U .shut g (holds-in ws h g q H) m (full-in f) in zero-one cc;
     grown = λ g H m f. (ap (λ (j : ℕ). yes-with (j ∷ [])) (holds-in ws h g q H .ids-are ∙ sym (w g H m)), held g H m (room-in f));
