@@ -7,3 +7,4 @@ pub mod Listing
 pub mod ClassLists
 pub mod Adds
 pub mod Rebuilds
+pub mod Whole

@@ -1,13 +1,15 @@
 -- Every answer is pinned down (document 01, "What pins an answer down"): of each call, on words that hold a graph, two outcomes that satisfy its promise have the same
 -- answer, and there is one graph that the words of both hold. By holds' `determined` any other graph that either holds is that one but for the table's dead keys, which
--- no answer shows. It is said of two calls on two slices of words that hold one graph under the same limits; they may be the same words.
+-- no answer shows. It is said of two calls on two slices of words that hold one graph under the same limits; they may be the same words. Of the reads but for `lookup` it
+-- is said of any words besides.
 -- Assumes nothing.
 use mathlib.Core.Bool.{Bool, false, true}
 use mathlib.Core.List.{List, [], _++_, _∷_}
 use mathlib.Core.Logic.{_⊎_, inl, inr}
 use mathlib.Core.Option.{Option, none, some}
 use mathlib.Core.Path.{_∙_, _≡_, ap, refl, subst, sym}
-use Prim.Native.Nat.{_+_, _<_, _≤_, suc, zero, ℕ}
+use Prim.Native.Nat.{_+_, _<_, _≤_, ℕ}
+use native.Mathlib.Decide.{decLt}
 use native.Mathlib.Omega.{arith}
 use lib.ListN.{drop, length, take, take-append-drop}
 use Rattle.lists.specs.Reads.{at}
@@ -22,13 +24,14 @@ use Rattle.steps.specs.Machine.{fresh}
 use Rattle.closure.specs.Ends.{ends}
 use Rattle.adding.specs.Says.{Full, Known, Room, kept-for}
 use Rattle.egraph.specs.Adds.{Adding, AddingSays, LookupSays, NodeLadder}
-use Rattle.egraph.specs.Answers.{Answer, Else, Lists, SameLimits, Unless-3, add-says, count-says, find-says, flag-says, head-of, list-says, lookup-says, no-by, node-says, setup-says, union-says, yes-with}
-use Rattle.egraph.specs.ClassLists.{ClassesSays, ForOpSays, ListSays, TotalSays, list-held, total-held}
-use Rattle.egraph.specs.Listing.{NodeSays, NodesSays}
+use Rattle.egraph.specs.Answers.{Answer, Else, ListAt, Lists, SameLimits, Unless-3, add-says, count-says, find-says, flag-says, head-of, list-says, lookup-says, no-by, node-says, setup-says, union-says, yes-with}
+use Rattle.egraph.specs.ClassLists.{ClassesSays, ForOpSays, ListSays, TotalSays, list-held, total-held, total-in}
+use Rattle.egraph.specs.Listing.{NodeSays, NodesSays, nodes-in}
 use Rattle.egraph.specs.Reads.{CleanSays, CountSays, EmptySays, FindSays}
 use Rattle.egraph.specs.Rebuilds.{RebuildSays}
 use Rattle.egraph.specs.Setup.{Limits, SetupSays}
 use Rattle.egraph.specs.Unions.{UnionOpen, UnionSays}
+use Rattle.egraph.specs.Whole.{all-below, good-test, row-test, rows-test, unbroken-test}
 use Rattle.egraph.specs.declared.AddAnswer.{AddAnswer}
 use Rattle.egraph.specs.declared.CountAnswer.{CountAnswer}
 use Rattle.egraph.specs.declared.FindAnswer.{FindAnswer}
@@ -72,19 +75,9 @@ or-lt x y = go (lt-or x y)
     go (inl a) = inr a
     go (inr a) = inl a
 
-low-or : (ks : List ℕ) (N : ℕ) → (((i : ℕ) → i < length ks → at ks i < N) → ⊥) ⊎ ((i : ℕ) → i < length ks → at ks i < N)
-low-or [] N = inr (λ i h. absurd (omega arith))
-low-or (k ∷ ks) N = go (lt-or k N) (low-or ks N)
-  where
-    put : k < N → ((i : ℕ) → i < length ks → at ks i < N) → (i : ℕ) → i < length (k ∷ ks) → at (k ∷ ks) i < N
-    put a f zero h = a
-    put a f (suc i) h = f i (omega arith)
-
-    go : (k < N) ⊎ (N ≤ k) → (((i : ℕ) → i < length ks → at ks i < N) → ⊥) ⊎ ((i : ℕ) → i < length ks → at ks i < N)
-        → (((i : ℕ) → i < length (k ∷ ks) → at (k ∷ ks) i < N) → ⊥) ⊎ ((i : ℕ) → i < length (k ∷ ks) → at (k ∷ ks) i < N)
-    go (inr a) q = inl (λ f. let z : k < N = f 0 (omega arith) in omega arith)
-    go (inl a) (inl n) = inl (λ f. n (λ i h. f (suc i) (omega arith)))
-    go (inl a) (inr f) = inr (put a f)
+dec-or : {P : Type 0} → Dec P → (P → ⊥) ⊎ P
+dec-or (no n) = inl n
+dec-or (yes p) = inr p
 
 full-or : (h : Head) (x : Term) → Full h x ⊎ Room h x
 full-or h x = go (lt-or (h .ids) (h .n)) (lt-or (h .m) (h .places + length (x .kids)))
@@ -127,6 +120,67 @@ setup-one ws n m r r′ ws1 ws1′ s t =
         graph = (fresh, p .held, q .held);
       }),
     )))
+
+-- ---- reads of any words
+
+module _ (ws : List ℕ) where
+  -- refused by 3 alike
+  good-ends : {N X N′ X′ R : Type 0} → Unless-3 ws N X → Unless-3 ws N′ X′ → (N → N′ → R) → (X → X′ → R) → R
+  good-ends s t n f = both-ends (dec-or (good-test ws)) s t n f
+
+  pub find-same : (i : ℕ) (r r′ : FindAnswer) → FindSays ws i r → FindSays ws i r′ → find-says r ≡ find-says r′
+  find-same i r r′ s t =
+      good-ends s t (λ p q. p ∙ sym q)
+      (λ s t. both-ends (or-lt i (head-of ws .ids)) s t (λ p q. p ∙ sym q) (λ p q. p .exact ∙ sym (q .exact)))
+
+  pub count-same : (r r′ : CountAnswer) → CountSays ws r → CountSays ws r′ → count-says r ≡ count-says r′
+  count-same r r′ s t = good-ends s t (λ p q. p ∙ sym q) (λ p q. p .exact ∙ sym (q .exact))
+
+  pub empty-same : (r r′ : FlagAnswer) → EmptySays ws r → EmptySays ws r′ → flag-says r ≡ flag-says r′
+  empty-same r r′ s t = good-ends s t (λ p q. p ∙ sym q) (λ p q. p .exact ∙ sym (q .exact))
+
+  pub clean-same : (r r′ : FlagAnswer) → CleanSays ws r → CleanSays ws r′ → flag-says r ≡ flag-says r′
+  clean-same r r′ s t = good-ends s t (λ p q. p ∙ sym q) (λ p q. p .exact ∙ sym (q .exact))
+
+  pub node-same : (i : ℕ) (r r′ : NodeAnswer) → NodeSays ws i r → NodeSays ws i r′ → node-says r ≡ node-says r′
+  node-same i r r′ s t =
+      good-ends (s .says) (t .says) (λ p q. p ∙ sym q)
+      (λ s t. both-ends (or-lt i (head-of ws .ids)) s t (λ p q. p ∙ sym q)
+      (λ s t. both-ends (dec-or (row-test (head-of ws) ws i)) (s .exact) (t .exact) (λ p q. p ∙ sym q) (λ p q. p ∙ sym q)))
+
+  pub total-same : (r r′ : CountAnswer) → TotalSays ws r → TotalSays ws r′ → count-says r ≡ count-says r′
+  total-same r r′ s t =
+      good-ends s t (λ p q. p ∙ sym q)
+      (λ s t. both-ends (clean-or (head-of ws .clean)) s t (λ p q. p ∙ sym q)
+      (λ s t. both-ends (lt-or (head-of ws .ids) (total-in (head-of ws) ws)) (s .exact) (t .exact) (λ p q. p ∙ sym q) (λ p q. p ∙ sym q)))
+
+  -- a list: one answer and one slice
+  module _ (out : List ℕ) (r r′ : ListAnswer) (o o′ : List ℕ) where
+    abbrev Same : Type 0
+    Same = (list-says r ≡ list-says r′) × (o ≡ o′)
+
+    refused-same : {k : ℕ} → (list-says r ≡ no-by k) × (o ≡ out) → (list-says r′ ≡ no-by k) × (o′ ≡ out) → Same
+    refused-same p q = (p .0 ∙ sym (q .0), p .1 ∙ sym (q .1))
+
+    at-same : {Whole : Type 0} → Dec Whole → (xs : List ℕ) → ListAt Whole xs out r o → ListAt Whole xs out r′ o′ → Same
+    at-same d xs s t = both-ends (dec-or d) s t (λ p q. refused-same p q) (λ p q. lists-one xs out r r′ o o′ p q)
+
+    pub nodes-same : NodesSays ws out r o → NodesSays ws out r′ o′ → Same
+    nodes-same s t =
+        good-ends (s .says) (t .says) (λ p q. refused-same p q)
+        (λ p q. at-same (rows-test (head-of ws) ws) (nodes-in (head-of ws) ws) (p .exact) (q .exact))
+
+    list-same : (list : Graph → List ℕ) (reads : Head → List ℕ → List ℕ) → ListSays list reads ws out r o → ListSays list reads ws out r′ o′ → Same
+    list-same list reads s t =
+        good-ends (s .says) (t .says) (λ p q. refused-same p q)
+        (λ s t. both-ends (clean-or (head-of ws .clean)) s t (λ p q. refused-same p q)
+        (λ p q. at-same (unbroken-test (head-of ws) ws) (reads (head-of ws) ws) (p .exact) (q .exact)))
+
+    pub for-op-same : (op : ℕ) → ForOpSays ws op out r o → ForOpSays ws op out r′ o′ → Same
+    for-op-same op s t = list-same _ _ s t
+
+    pub classes-same : ClassesSays ws out r o → ClassesSays ws out r′ o′ → Same
+    classes-same s t = list-same _ _ s t
 
 -- ---- two slices of words that hold one graph under the same limits
 
@@ -186,23 +240,27 @@ module _ (ws ws′ : List ℕ) (g : Graph) (H : Holds ws g) (H′ : Holds ws′ 
   pub total-one : (r r′ : CountAnswer) → TotalSays ws r → TotalSays ws′ r′ → count-says r ≡ count-says r′
   total-one r r′ s t = both-ends (clean-or (g .clean)) (total-held ws g H r s) (total-held ws′ g H′ r′ t) (λ p q. p ∙ sym q) (λ p q. p ∙ sym q)
 
-  list-one : (list : Graph → List ℕ) (out : List ℕ) (r r′ : ListAnswer) (o o′ : List ℕ) → ListSays list ws out r o → ListSays list ws′ out r′ o′ → (list-says r ≡ list-says r′) × (o ≡ o′)
-  list-one list out r r′ o o′ s t =
-      both-ends (clean-or (g .clean)) (list-held list ws g H out r o s) (list-held list ws′ g H′ out r′ o′ t) (λ p q. (p .0 ∙ sym (q .0), p .1 ∙ sym (q .1)))
+  list-one : (list : Graph → List ℕ) (reads : Head → List ℕ → List ℕ) (out : List ℕ) (r r′ : ListAnswer) (o o′ : List ℕ) → ListSays list reads ws out r o → ListSays list reads ws′ out r′ o′
+      → (list-says r ≡ list-says r′) × (o ≡ o′)
+  list-one list reads out r r′ o o′ s t =
+      both-ends (clean-or (g .clean)) (list-held list reads ws g H out r o s) (list-held list reads ws′ g H′ out r′ o′ t) (λ p q. (p .0 ∙ sym (q .0), p .1 ∙ sym (q .1)))
       (λ p q. lists-one (list g) out r r′ o o′ p q)
 
   pub for-op-one : (op : ℕ) (out : List ℕ) (r r′ : ListAnswer) (o o′ : List ℕ) → ForOpSays ws op out r o → ForOpSays ws′ op out r′ o′ → (list-says r ≡ list-says r′) × (o ≡ o′)
-  for-op-one op out r r′ o o′ s t = list-one (λ (k : Graph). classes-for-op k op) out r r′ o o′ s t
+  for-op-one op out r r′ o o′ s t = list-one (λ (k : Graph). classes-for-op k op) _ out r r′ o o′ s t
 
   pub classes-one : (out : List ℕ) (r r′ : ListAnswer) (o o′ : List ℕ) → ClassesSays ws out r o → ClassesSays ws′ out r′ o′ → (list-says r ≡ list-says r′) × (o ≡ o′)
-  classes-one out r r′ o o′ s t = list-one classes out r r′ o o′ s t
+  classes-one out r r′ o o′ s t = list-one classes _ out r r′ o o′ s t
 
   -- ---- a node in hand
+
+  known-test : (x : Node) → Dec (Known (nodeOf x) (head-of ws .ids))
+  known-test x = all-below (λ (i : ℕ). decLt (at (nodeOf x .kids) i) (head-of ws .ids)) (length (nodeOf x .kids))
 
   node-ends : (x : Node) {No No′ : ℕ → Type 0} {X X′ R : Type 0} → NodeLadder ws x No X → NodeLadder ws′ x No′ X′ → ((k : ℕ) → No k → No′ k → R) → (X → X′ → R) → R
   node-ends x {No′ = No′} {X′ = X′} s t n f =
       open-both s t (λ s t. both-ends (lt-or places (x .count)) s t (n 5)
-      (λ s t. both-ends (low-or (nodeOf x .kids) (head-of ws .ids)) s (subst (λ (k : ℕ). Else (Known (nodeOf x) k → ⊥) (No′ 4) (Known (nodeOf x) k) X′) ids-same t) (n 4) f))
+      (λ s t. both-ends (dec-or (known-test x)) s (subst (λ (k : ℕ). Else (Known (nodeOf x) k → ⊥) (No′ 4) (Known (nodeOf x) k) X′) ids-same t) (n 4) f))
 
   pub lookup-one : (x : Node) (r r′ : LookupAnswer) → LookupSays ws x r → LookupSays ws′ x r′ → lookup-says r ≡ lookup-says r′
   lookup-one x r r′ s t =
