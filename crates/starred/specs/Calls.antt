@@ -1,4 +1,5 @@
--- A script of calls, and what the definitions of `steps` and `price` answer to it, as a list of numbers: what the table of cases is computed with.
+-- A script of calls, and what the definitions of `steps` and `price` answer to it, as a list of numbers: what the table of cases is computed with. Prices come from
+-- `quick-table`, whose passes are counted so that it computes; on graphs that calls make it is `table` (`quick` of price, Graphs).
 -- Assumes nothing.
 use mathlib.Core.List.{List, [], _++_, _∷_, flatMap}
 use mathlib.Core.Option.{Option, none, some}

@@ -52,6 +52,14 @@ pub fn limit_places(seed: u64) -> u32
     draw_word(seed, 43, 26)
 }
 
+// Document 01's case O: `find` on no words at all.
+pub fn find_in_no_words() -> usize
+    ensures { λ r. ⌜ r < 10 ⌝ }
+{
+    let ws = [0u32; 1];
+    find(&ws[..0], 0)
+}
+
 fn find(ws: &[u32], seed: u64) -> usize
     ensures { λ r. ⌜ r < 10 ⌝ }
 {

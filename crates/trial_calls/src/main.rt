@@ -9,6 +9,8 @@
 //                                                 all but setup, the adds, union and rebuild changed no word of the graph, whatever they answered
 //     0 good graphs answered 9                    on graphs that calls had made, two fifths of the turns, none answered 9
 //
+// and, first, what `find` answers on no words: 3, as document 01's case O says.
+//
 // The 0s are what is claimed. A and B are what came out of a run: egg has no words that could be broken so, and no other source says them.
 mod answers;
 mod building;
@@ -60,6 +62,7 @@ fn on_lists() {
 }
 
 fn main() {
+    text::no_words(calls::find_in_no_words());
     on_nodes();
     on_counts();
     on_changes();

@@ -35,6 +35,15 @@ fn claims(outside: u64, lapses: u64, nines: u64) {
     io::write_all(1, b" good graphs answered 9\n");
 }
 
+// What `find` answered on no words.
+pub fn no_words(k: usize)
+    requires { ⌜ k < 10 ⌝ }
+{
+    io::write_all(1, b"find on no words:");
+    number(k as u64);
+    io::write_all(1, b"\n");
+}
+
 // What came of the trials of a call.
 pub fn report(name: &[u8], t: &[u64; TALLY]) {
     io::write_all(1, name);
