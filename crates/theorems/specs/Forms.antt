@@ -13,7 +13,7 @@ use Rattle.lists.specs.Tests.{lt-or}
 use Rattle.language.specs.Term.{Term, spell}
 use Rattle.steps.specs.Forced.{Made}
 use Rattle.steps.specs.Graph.{Graph, ids, node, root}
-use Rattle.egraph.specs.Answers.{head-of}
+use Rattle.egraph.specs.Answers.{SameLimits}
 use Rattle.extract.specs.Form.{FormAs, FormLists, FormSays, form-of, form-says}
 use Rattle.extract.specs.Priced.{cost-of}
 use Rattle.extract.specs.declared.FormAnswer.{FormAnswer}
@@ -26,8 +26,8 @@ use Rattle.price.specs.Shown.{entry-lt, in-order-at, in-order-length}
 use Rattle.price.specs.Size.{AstSize, Least-size, ast-size, cap, size-least, size-listed}
 use Rattle.pricing.specs.Classed.{KidsKnown}
 use Rattle.theorems.specs.Course.{Run}
-use Rattle.theorems.specs.Outcomes.{both-ends, or-lt}
-use Rattle.theorems.specs.Sizes.{flag-or, made-known}
+use Rattle.theorems.specs.Outcomes.{One, clean-ends, id-ends, left-alone, open-both}
+use Rattle.theorems.specs.Sizes.{made-known}
 
 -- ---- demand 2, of forms
 
@@ -99,14 +99,14 @@ same-lists s xs out r r′ o o′ p q = go (lt-or (length out) (length xs))
         let y : drop k o ≡ drop k o′ = a .2 ∙ sym (b .2) in
         (a .0 ∙ sym (b .0), sym (take-append-drop k o) ∙ ap (λ (l : List ℕ). l ++ drop k o) x ∙ ap (λ (l : List ℕ). take k o′ ++ l) y ∙ take-append-drop k o′)
 
-pub form-one : (ws : List ℕ) (g : Graph) → Holds ws g → KidsKnown g → (i : ℕ) (out : List ℕ) (r r′ : FormAnswer) (ws1 ws1′ out1 out1′ : List ℕ)
-    → FormSays ws i out r ws1 out1 → FormSays ws i out r′ ws1′ out1′ → (form-says r ≡ form-says r′) × (ws1 ≡ ws1′) × (out1 ≡ out1′)
-form-one ws g H K i out r r′ ws1 ws1′ out1 out1′ S T =
+-- of two slices of words that hold one graph under the same limits: one answer, one slice, and no word of the graph has changed
+pub form-one : (ws ws′ : List ℕ) (g : Graph) → Holds ws g → Holds ws′ g → SameLimits ws ws′ → KidsKnown g → (i : ℕ) (out : List ℕ) (r r′ : FormAnswer) (ws1 ws1′ out1 out1′ : List ℕ)
+    → FormSays ws i out r ws1 out1 → FormSays ws′ i out r′ ws1′ out1′ → One (form-says r) (form-says r′) ws1 ws1′ × (out1 ≡ out1′)
+form-one ws ws′ g H H′ L K i out r r′ ws1 ws1′ out1 out1′ S T =
     let a =
-    both-ends (or-lt i (head-of ws .ids)) (S .says .on (H .good)) (T .says .on (H .good)) (λ p q. (p .0 ∙ sym (q .0), p .1 ∙ sym (q .1)))
-    (λ s t. both-ends (flag-or (head-of ws .clean)) s t (λ p q. (p .0 ∙ sym (q .0), p .1 ∙ sym (q .1)))
-    (λ p q. go (cost-of g i) (p .sound g H K) (q .sound g H K))) in
-    (a .0, S .same ∙ sym (T .same), a .1)
+    open-both ws ws′ g H H′ L (S .says) (T .says) (λ s t. id-ends ws ws′ g H H′ L i s t (λ p q. (p .0 ∙ sym (q .0), p .1 ∙ sym (q .1)))
+    (λ s t. clean-ends ws ws′ g H H′ L s t (λ p q. (p .0 ∙ sym (q .0), p .1 ∙ sym (q .1))) (λ p q. go (cost-of g i) (p .sound g H K) (q .sound g H′ K)))) in
+    (left-alone ws ws′ g H H′ L (S .same) (T .same) (a .0), a .1)
   where
     go : (b : Option (Best ℕ)) → FormAs (form-of g i) out r out1 b → FormAs (form-of g i) out r′ out1′ b → (form-says r ≡ form-says r′) × (out1 ≡ out1′)
     go none p q = (p .0 ∙ sym (q .0), p .1 ∙ sym (q .1))

@@ -24,7 +24,7 @@ use Rattle.steps.specs.Machine.{fresh}
 use Rattle.closure.specs.Ends.{ends}
 use Rattle.adding.specs.Says.{Full, Known, Room, kept-for}
 use Rattle.egraph.specs.Adds.{Adding, AddingSays, LookupSays, NodeLadder}
-use Rattle.egraph.specs.Answers.{Answer, Else, ListAt, Lists, SameLimits, Unless-3, add-says, count-says, find-says, flag-says, head-of, list-says, lookup-says, no-by, node-says, setup-says, union-says, yes-with}
+use Rattle.egraph.specs.Answers.{Answer, Else, ListAt, Lists, SameLimits, Unless-3, Unless-7, add-says, count-says, find-says, flag-says, head-of, held-clean, list-says, lookup-says, no-by, node-says, setup-says, union-says, yes-with}
 use Rattle.egraph.specs.ClassLists.{ClassesSays, ForOpSays, ListSays, TotalSays, list-held, total-held, total-in}
 use Rattle.egraph.specs.Listing.{NodeSays, NodesSays, nodes-in}
 use Rattle.egraph.specs.Reads.{CleanSays, CountSays, EmptySays, FindSays}
@@ -200,16 +200,25 @@ module _ (ws ws′ : List ℕ) (g : Graph) (H : Holds ws g) (H′ : Holds ws′ 
   room-same x f = (omega (arith, f .0, L .0, ids-same), omega (arith, f .1, L .1, places-same))
 
   -- 3 does not come
-  open-both : {N X N′ X′ R : Type 0} → Unless-3 ws N X → Unless-3 ws′ N′ X′ → (X → X′ → R) → R
+  pub open-both : {N X N′ X′ R : Type 0} → Unless-3 ws N X → Unless-3 ws′ N′ X′ → (X → X′ → R) → R
   open-both s t f = f (s .on (H .good)) (t .on (H′ .good))
 
   -- an id, known or not
-  id-ends : (i : ℕ) {N X N′ X′ R : Type 0} → Else (head-of ws .ids ≤ i) N (i < head-of ws .ids) X → Else (head-of ws′ .ids ≤ i) N′ (i < head-of ws′ .ids) X′ → (N → N′ → R) → (X → X′ → R) → R
+  pub id-ends : (i : ℕ) {N X N′ X′ R : Type 0} → Else (head-of ws .ids ≤ i) N (i < head-of ws .ids) X → Else (head-of ws′ .ids ≤ i) N′ (i < head-of ws′ .ids) X′ → (N → N′ → R) → (X → X′ → R) → R
   id-ends i {N′ = N′} {X′ = X′} s t n f = both-ends (or-lt i (head-of ws .ids)) s (subst (λ (k : ℕ). Else (k ≤ i) N′ (i < k) X′) ids-same t) n f
+
+  -- clean or not
+  pub clean-ends : {N X N′ X′ R : Type 0} → Unless-7 ws N X → Unless-7 ws′ N′ X′ → (N → N′ → R) → (X → X′ → R) → R
+  clean-ends {N′ = N′} {X′ = X′} s t n f =
+      both-ends (clean-or (head-of ws .clean)) s (subst (λ (b : Bool). Else (b ≡ false) N′ (b ≡ true) X′) (held-clean H′ ∙ sym (held-clean H)) t) n f
+
+  -- answered alike, and no word of either changed
+  pub left-alone : {a a′ : Answer} {ws1 ws1′ : List ℕ} → ws1 ≡ ws → ws1′ ≡ ws′ → a ≡ a′ → One a a′ ws1 ws1′
+  left-alone p q e = record { answer = e; limits = rw (p, q) L; graph = (g, rw p H, rw q H′) }
 
   -- refused alike, with no word changed
   refused : {a a′ : Answer} {k : ℕ} {ws1 ws1′ : List ℕ} → (a ≡ no-by k) × (ws1 ≡ ws) → (a′ ≡ no-by k) × (ws1′ ≡ ws′) → One a a′ ws1 ws1′
-  refused p q = record { answer = p .0 ∙ sym (q .0); limits = rw (p .1, q .1) L; graph = (g, rw (p .1) H, rw (q .1) H′) }
+  refused p q = left-alone (p .1) (q .1) (p .0 ∙ sym (q .0))
 
   -- answered alike
   answered : {a a′ : Answer} {vs : List ℕ} {ws1 ws1′ : List ℕ} {k : Graph} → SameLimits ws ws1 → SameLimits ws′ ws1′ → (a ≡ yes-with vs) × Holds ws1 k → (a′ ≡ yes-with vs) × Holds ws1′ k → One a a′ ws1 ws1′

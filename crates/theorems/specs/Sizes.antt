@@ -1,22 +1,21 @@
 -- What the promise of `find_best_cost` comes to: demand 2's sentence on sizes, that the size given for a class is the least AstSize of any finite form in it, capped at
 -- 2^64 - 1; that 9 never comes on words that calls made; and that two outcomes are one. That no word changes is in the promise itself.
 -- Assumes nothing.
-use mathlib.Core.Bool.{Bool, false, true}
+use mathlib.Core.Bool.{true}
 use mathlib.Core.List.{List, [], _∷_}
-use mathlib.Core.Logic.{_⊎_, inl, inr}
-use mathlib.Core.Path.{_∙_, _≡_, ap, refl, sym}
+use mathlib.Core.Path.{_∙_, _≡_, ap, sym}
 use Prim.Native.Nat.{_<_, min, ℕ}
 use Rattle.steps.specs.Forced.{Made}
 use Rattle.steps.specs.Graph.{Graph, ids, root}
 use Rattle.closure.specs.Kept.{made-good}
-use Rattle.egraph.specs.Answers.{head-of, yes-with}
+use Rattle.egraph.specs.Answers.{SameLimits, yes-with}
 use Rattle.extract.specs.Cost.{CostSays, cost-says, price-says}
 use Rattle.extract.specs.declared.CostAnswer.{CostAnswer}
 use Rattle.holds.specs.Holds.{Holds}
 use Rattle.price.specs.Size.{Least-size, ast-size, cap, size-least}
 use Rattle.pricing.specs.Classed.{KidsKnown}
 use Rattle.theorems.specs.Course.{Run}
-use Rattle.theorems.specs.Outcomes.{both-ends, or-lt}
+use Rattle.theorems.specs.Outcomes.{One, clean-ends, id-ends, left-alone, open-both}
 
 -- ---- demand 2
 
@@ -40,14 +39,10 @@ module _ (us : List (ℕ × ℕ)) (ws : List ℕ) (g : Graph) (C : Run us ws g) 
 
 -- ---- two outcomes are one
 
-pub flag-or : (b : Bool) → (b ≡ false) ⊎ (b ≡ true)
-flag-or false = inl refl
-flag-or true = inr refl
-
-pub cost-one : (ws : List ℕ) (g : Graph) → Holds ws g → KidsKnown g → (i : ℕ) (r r′ : CostAnswer) (ws1 ws1′ : List ℕ) → CostSays ws i r ws1 → CostSays ws i r′ ws1′
-    → (cost-says r ≡ cost-says r′) × (ws1 ≡ ws1′)
-cost-one ws g H K i r r′ ws1 ws1′ S T = (
-  both-ends (or-lt i (head-of ws .ids)) (S .says .on (H .good)) (T .says .on (H .good)) (λ p q. p ∙ sym q)
-      (λ s t. both-ends (flag-or (head-of ws .clean)) s t (λ p q. p ∙ sym q) (λ p q. p .sound g H K ∙ sym (q .sound g H K))),
-  S .same ∙ sym (T .same),
-)
+-- of two slices of words that hold one graph under the same limits: one answer, and no word of either has changed
+pub cost-one : (ws ws′ : List ℕ) (g : Graph) → Holds ws g → Holds ws′ g → SameLimits ws ws′ → KidsKnown g → (i : ℕ) (r r′ : CostAnswer) (ws1 ws1′ : List ℕ)
+    → CostSays ws i r ws1 → CostSays ws′ i r′ ws1′ → One (cost-says r) (cost-says r′) ws1 ws1′
+cost-one ws ws′ g H H′ L K i r r′ ws1 ws1′ S T =
+    left-alone ws ws′ g H H′ L (S .same) (T .same)
+    (open-both ws ws′ g H H′ L (S .says) (T .says) (λ s t. id-ends ws ws′ g H H′ L i s t (λ p q. p ∙ sym q)
+    (λ s t. clean-ends ws ws′ g H H′ L s t (λ p q. p ∙ sym q) (λ p q. p .sound g H K ∙ sym (q .sound g H′ K)))))
