@@ -1,4 +1,5 @@
 pub mod Outcomes
+pub mod Ladders
 pub mod Course
 pub mod Sizes
 pub mod Forms

@@ -58,7 +58,7 @@ pub record One (a a′ : Answer) (ws ws′ : List ℕ) : Type 0 where
 
 -- ---- decisions
 
-limits-or : (n m : ℕ) → (Limits n m → ⊥) ⊎ Limits n m
+pub limits-or : (n m : ℕ) → (Limits n m → ⊥) ⊎ Limits n m
 limits-or n m = go (lt-or n 1) (lt-or 65536 n) (lt-or 262144 m)
   where
     go : (n < 1) ⊎ (1 ≤ n) → (65536 < n) ⊎ (n ≤ 65536) → (262144 < m) ⊎ (m ≤ 262144) → (Limits n m → ⊥) ⊎ Limits n m
@@ -79,7 +79,10 @@ dec-or : {P : Type 0} → Dec P → (P → ⊥) ⊎ P
 dec-or (no n) = inl n
 dec-or (yes p) = inr p
 
-full-or : (h : Head) (x : Term) → Full h x ⊎ Room h x
+pub low-or : (ks : List ℕ) (N : ℕ) → (((i : ℕ) → i < length ks → at ks i < N) → ⊥) ⊎ ((i : ℕ) → i < length ks → at ks i < N)
+low-or ks N = dec-or (all-below (λ (i : ℕ). decLt (at ks i) N) (length ks))
+
+pub full-or : (h : Head) (x : Term) → Full h x ⊎ Room h x
 full-or h x = go (lt-or (h .ids) (h .n)) (lt-or (h .m) (h .places + length (x .kids)))
   where
     go : (h .ids < h .n) ⊎ (h .n ≤ h .ids) → (h .m < h .places + length (x .kids)) ⊎ (h .places + length (x .kids) ≤ h .m) → Full h x ⊎ Room h x
@@ -88,7 +91,7 @@ full-or h x = go (lt-or (h .ids) (h .n)) (lt-or (h .m) (h .places + length (x .k
     go (inl a) (inr b) = inr (a, b)
 
 -- clean or not
-clean-or : (b : Bool) → (b ≡ false) ⊎ (b ≡ true)
+pub clean-or : (b : Bool) → (b ≡ false) ⊎ (b ≡ true)
 clean-or false = inl refl
 clean-or true = inr refl
 
@@ -263,13 +266,10 @@ module _ (ws ws′ : List ℕ) (g : Graph) (H : Holds ws g) (H′ : Holds ws′ 
 
   -- ---- a node in hand
 
-  known-test : (x : Node) → Dec (Known (nodeOf x) (head-of ws .ids))
-  known-test x = all-below (λ (i : ℕ). decLt (at (nodeOf x .kids) i) (head-of ws .ids)) (length (nodeOf x .kids))
-
   node-ends : (x : Node) {No No′ : ℕ → Type 0} {X X′ R : Type 0} → NodeLadder ws x No X → NodeLadder ws′ x No′ X′ → ((k : ℕ) → No k → No′ k → R) → (X → X′ → R) → R
   node-ends x {No′ = No′} {X′ = X′} s t n f =
       open-both s t (λ s t. both-ends (lt-or places (x .count)) s t (n 5)
-      (λ s t. both-ends (dec-or (known-test x)) s (subst (λ (k : ℕ). Else (Known (nodeOf x) k → ⊥) (No′ 4) (Known (nodeOf x) k) X′) ids-same t) (n 4) f))
+      (λ s t. both-ends (low-or (nodeOf x .kids) (head-of ws .ids)) s (subst (λ (k : ℕ). Else (Known (nodeOf x) k → ⊥) (No′ 4) (Known (nodeOf x) k) X′) ids-same t) (n 4) f))
 
   pub lookup-one : (x : Node) (r r′ : LookupAnswer) → LookupSays ws x r → LookupSays ws′ x r′ → lookup-says r ≡ lookup-says r′
   lookup-one x r r′ s t =
