@@ -7,7 +7,7 @@ use mathlib.Core.List.{List, [], _++_, _∷_}
 use mathlib.Core.Logic.{_≢_, _⊎_, inl, inr}
 use mathlib.Core.Option.{Option, none, some}
 use mathlib.Core.Path.{_∙_, _≡_, ap, refl, subst, sym}
-use Prim.Native.Nat.{_<_, _≤_, ℕ}
+use Prim.Native.Nat.{_+_, _<_, _≤_, ℕ}
 use native.Mathlib.Decide.{decLt, ℕ-discrete}
 use native.Mathlib.Omega.{arith}
 use lib.ListN.{length}
@@ -40,11 +40,12 @@ use Rattle.egraph.specs.declared.UnionAnswer.{UnionAnswer}
 use Rattle.egraph.specs.declared.UnionAnswer.the-variants.{UnionNo, UnionNot, UnionYes}
 use Rattle.layout.specs.Cut.{need}
 use Rattle.layout.specs.declared.Head.{Head}
+use Rattle.rows.specs.Rows
 use Rattle.theorems.specs.Course.{Run}
 use Rattle.theorems.specs.Held.{Goes, Refused, adding-ends, rebuild-held, union-ends}
 use Rattle.theorems.specs.Outcomes.{limits-or}
 use Rattle.theorems.specs.Reached
-use Rattle.theorems.specs.Reached.{Call, Leads, Reached, after-add, after-rebuild, after-union, did-add, did-rebuild, did-union, nodes-of, rebuilt, unions-of}
+use Rattle.theorems.specs.Reached.{Call, Leads, Reached, after-add, after-rebuild, after-union, child-places, did-add, did-rebuild, did-union, nodes-of, rebuilt, unions-of}
 
 pub record Behind (n m : ℕ) (cs : List Call) (ws : List ℕ) (g : Graph) : Type 0 where
   pub run : Run (unions-of cs) ws g
@@ -52,6 +53,14 @@ pub record Behind (n m : ℕ) (cs : List Call) (ws : List ℕ) (g : Graph) : Typ
   pub m-is : head-of ws .m ≡ m
   pub nodes : g .nodes ≡ nodes-of cs
   pub clean : g .clean ≡ rebuilt cs
+
+-- the places in use, as the head has them
+places-sum : (ts : List Term) → Rows.taken ts (length ts) ≡ child-places ts
+places-sum [] = refl
+places-sum (t ∷ ts) = ap (λ (k : ℕ). length (t .kids) + k) (places-sum ts)
+
+pub places-are : {us : List (ℕ × ℕ)} {ws : List ℕ} {g : Graph} → Run us ws g → head-of ws .places ≡ child-places (g .nodes)
+places-are {g = g} C = C .holds .at-rest .places-are ∙ places-sum (g .nodes)
 
 -- ---- the accepted calls lead to one graph
 

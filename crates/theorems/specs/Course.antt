@@ -116,23 +116,27 @@ module _ (us : List (ℕ × ℕ)) (ws : List ℕ) (g : Graph) (C : Run us ws g) 
       is-true true q = refl
       is-true false q = let z : _≡_ {A = ℕ} 1 0 = ap (λ (t : Answer). at (t .values) 0) q in absurd (omega arith)
 
-  -- demand 3 of the words: where `clean` says yes, two ids are answered alike by `find` exactly when the unions asked for force them equal
-  pub words-demand-3 : (c : FlagAnswer) → CleanSays ws c → flag-says c ≡ yes-with (1 ∷ []) → (i j : ℕ) (r r′ : FindAnswer) → FindSays ws i r → FindSays ws j r′ → i < ids g → j < ids g
-      → (find-says r ≡ find-says r′) ↔ Forced (g .nodes) us i j
-  words-demand-3 c S e i j r r′ s t hi hj =
-      (words-sound i j r r′ s t hi hj, λ f. find-is i r s hi ∙ ap (λ (k : ℕ). yes-with (k ∷ [])) (demand-3 (C .made) clean i j .1 f) ∙ sym (find-is j r′ t hj))
-    where
-      clean : g .clean ≡ true
-      clean = clean-is c S e
+  -- demand 3 of the words that hold a clean graph: two ids are answered alike by `find` exactly when the unions asked for force them equal
+  pub held-demand-3 : g .clean ≡ true → (i j : ℕ) (r r′ : FindAnswer) → FindSays ws i r → FindSays ws j r′ → i < ids g → j < ids g → (find-says r ≡ find-says r′) ↔ Forced (g .nodes) us i j
+  held-demand-3 c i j r r′ s t hi hj =
+      (words-sound i j r r′ s t hi hj, λ f. find-is i r s hi ∙ ap (λ (k : ℕ). yes-with (k ∷ [])) (demand-3 (C .made) c i j .1 f) ∙ sym (find-is j r′ t hj))
 
-  -- another rebuild of the words: where `clean` says yes it answers 0, and the words hold the same graph under the same limits, so that no answer is altered
-  pub words-again : (c : FlagAnswer) → CleanSays ws c → flag-says c ≡ yes-with (1 ∷ []) → (r : CountAnswer) (ws′ : List ℕ) → RebuildSays ws r ws′
-      → (count-says r ≡ yes-with (0 ∷ [])) × Run us ws′ g × SameLimits ws ws′
-  words-again c S e r ws′ s =
+  -- another rebuild of them answers 0, and the words hold the same graph under the same limits, so that no answer is altered
+  pub held-again : g .clean ≡ true → (r : CountAnswer) (ws′ : List ℕ) → RebuildSays ws r ws′ → (count-says r ≡ yes-with (0 ∷ [])) × Run us ws′ g × SameLimits ws ws′
+  held-again c r ws′ s =
       let E = ends (C .made) in
-      let a = again (C .made) (clean-is c S e) (E .3) in
+      let a = again (C .made) c (E .3) in
       let o = run-rebuild r ws′ s (E .0) (E .1) (E .2) (E .3) in
       (o .0 ∙ ap (λ (k : ℕ). yes-with (k ∷ [])) (a .0), subst (λ (z : Graph). Run us ws′ z) (a .2) (o .1), s .on (C .holds .good) .limits)
+
+  -- both where `clean` says yes
+  pub words-demand-3 : (c : FlagAnswer) → CleanSays ws c → flag-says c ≡ yes-with (1 ∷ []) → (i j : ℕ) (r r′ : FindAnswer) → FindSays ws i r → FindSays ws j r′ → i < ids g → j < ids g
+      → (find-says r ≡ find-says r′) ↔ Forced (g .nodes) us i j
+  words-demand-3 c S e = held-demand-3 (clean-is c S e)
+
+  pub words-again : (c : FlagAnswer) → CleanSays ws c → flag-says c ≡ yes-with (1 ∷ []) → (r : CountAnswer) (ws′ : List ℕ) → RebuildSays ws r ws′
+      → (count-says r ≡ yes-with (0 ∷ [])) × Run us ws′ g × SameLimits ws ws′
+  words-again c S e = held-again (clean-is c S e)
 
 -- after a rebuild `clean` says yes
 pub rebuilt-says-clean : (us : List (ℕ × ℕ)) (ws : List ℕ) (g : Graph) → Run us ws g → (r : CountAnswer) (ws′ : List ℕ) → RebuildSays ws r ws′

@@ -6,7 +6,7 @@ use mathlib.Core.Bool.{true}
 use mathlib.Core.List.{List, _++_}
 use mathlib.Core.Logic.{_⊎_, inl, inr}
 use mathlib.Core.Option.{Option, none, some}
-use mathlib.Core.Path.{_∙_, _≡_, ap, subst, sym}
+use mathlib.Core.Path.{_∙_, _≡_, ap, refl, subst, sym}
 use Prim.Native.Nat.{_<_, _≤_, min, suc, ℕ}
 use lib.ListN.{drop, length, take, take-append-drop}
 use Rattle.lists.specs.Tests.{lt-or}
@@ -61,10 +61,11 @@ listing-shows {us} {g} M i lt =
       at-size = k .1 ∙ z .is;
     }
 
--- what was asked for, and what was answered: nodes that show a smallest form, and their words in the slice if it has room
+-- what was asked for, and what was answered: nodes that show a smallest form, and their words in the slice if it has room; they are the nodes that the definitions list
 pub record BestForm (g : Graph) (i : ℕ) (out : List ℕ) (r : FormAnswer) (out′ : List ℕ) : Type 0 where
   pub nodes : List Term
   pub shows : Shows g (root (g .roots) i) nodes
+  pub listed : spell nodes ≡ form-of g i
   pub is : FormLists (min (ast-size (shows .shape)) cap) (spell nodes) out r out′
 
 module _ (us : List (ℕ × ℕ)) (ws : List ℕ) (g : Graph) (C : Run us ws g) where
@@ -78,6 +79,7 @@ module _ (us : List (ℕ × ℕ)) (ws : List ℕ) (g : Graph) (C : Run us ws g) 
         record {
           nodes = in-order (listing g (table AstSize g) (root (g .roots) i));
           shows = s;
+          listed = refl;
           is = subst (λ (p : ℕ). FormLists p (form-of g i) out r out′) (s .size .is ∙ sym (s .at-size)) w;
         },
         S .same,

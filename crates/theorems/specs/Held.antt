@@ -5,21 +5,23 @@ use mathlib.Core.Bool.{false, true}
 use mathlib.Core.List.{List, [], _++_, _∷_}
 use mathlib.Core.Logic.{_≢_, _⊎_, inl, inr}
 use mathlib.Core.Option.{Option, none, some}
-use mathlib.Core.Path.{_∙_, _≡_, refl, sym}
+use mathlib.Core.Path.{_∙_, _≡_, ap, refl, sym}
 use Prim.Native.Nat.{_<_, _≤_, ℕ}
 use native.Mathlib.Omega.{arith}
 use lib.Dec.{eqb}
+use lib.ListN.{drop, length, take}
 use Rattle.lists.specs.Options.{none≢some}
 use Rattle.lists.specs.Tests.{lt-or}
 use Rattle.language.specs.Struct.{nodeOf}
-use Rattle.language.specs.Term.{Term, places, words}
+use Rattle.language.specs.Term.{Term, places, spell, words}
 use Rattle.language.specs.declared.Node.{Node}
-use Rattle.steps.specs.Classes.{nodes, number-of-classes}
+use Rattle.steps.specs.Classes.{nodes, number-of-classes, total-number-of-nodes}
 use Rattle.steps.specs.Graph.{Graph, ids, node, root}
 use Rattle.steps.specs.Machine.{Rebuild, add, lookup, union}
 use Rattle.adding.specs.Says.{Full, Known, Room, kept-for}
 use Rattle.egraph.specs.Adds.{AddingSays, LookupSays, NodeLadder, found-as}
-use Rattle.egraph.specs.Answers.{Answer, Else, Lists, SameLimits, Unless-7, add-says, count-says, find-says, flag, flag-says, head-of, held-clean, lookup-says, no-by, node-says, union-says, yes-with}
+use Rattle.egraph.specs.Answers.{Answer, Else, Lists, SameLimits, Unless-7, add-says, count-says, find-says, flag, flag-says, head-of, held-clean, list-says, lookup-says, no-by, node-says, union-says, yes-with}
+use Rattle.egraph.specs.ClassLists.{ListSays, TotalSays, list-held, total-held}
 use Rattle.egraph.specs.Listing.{NodeSays, NodesSays}
 use Rattle.egraph.specs.Reads.{CleanSays, CountSays, EmptySays, FindSays}
 use Rattle.egraph.specs.Rebuilds.{RebuildSays}
@@ -40,7 +42,7 @@ use Rattle.layout.specs.declared.Head.{Head}
 use Rattle.theorems.specs.Course.{Run, run-adding, run-rebuild, run-union}
 use Rattle.theorems.specs.Forms.{BestForm, run-form}
 use Rattle.theorems.specs.Ladders.{two-or}
-use Rattle.theorems.specs.Outcomes.{full-or, low-or}
+use Rattle.theorems.specs.Outcomes.{clean-or, full-or, low-or, or-lt}
 use Rattle.theorems.specs.Sizes.{Smallest, run-cost}
 
 -- refused by k, and S: nothing has changed
@@ -151,6 +153,14 @@ module _ (us : List (ℕ × ℕ)) (ws : List ℕ) (g : Graph) (C : Run us ws g) 
   pub rebuild-held : (r : CountAnswer) (ws′ : List ℕ) → RebuildSays ws r ws′ → (y t : ℕ) (z : Graph) → Rebuild g y t z → Goes ws (count-says r) (y ∷ []) ws′ us z
   rebuild-held r ws′ s y t z R = let o = run-rebuild us ws g C r ws′ s y t z R in record { answer = o .0; run = o .1; limits = s .on (C .holds .good) .limits }
 
+  -- ---- the classes
+
+  pub total-is : (r : CountAnswer) → TotalSays ws r → CleanLadder g (count-says r ≡ no-by 7) (count-says r ≡ yes-with (total-number-of-nodes g ∷ []))
+  total-is r s = total-held ws g (C .holds) r s
+
+  pub list-is : (list : Graph → List ℕ) (out : List ℕ) (r : ListAnswer) (out′ : List ℕ) → ListSays list ws out r out′ → CleanLadder g (No (list-says r) (out′ ≡ out) 7) (Lists (list g) out r out′)
+  list-is list out r out′ s = list-held list ws g (C .holds) out r out′ s
+
 -- ---- how a ladder ends
 
 -- refused by one of the numbers 1 to 8, and Same: nothing has changed
@@ -166,8 +176,19 @@ pub fall : {B G X R S : Type 0} {a : Answer} {k : ℕ} → 0 < k → k < 9 → B
 fall {k = k} p q (inl b) s f = let n = s .no b in inl (record { number = k; some = p; below-9 = q; is = n .0; same = n .1 })
 fall p q (inr g) s f = f (s .on g)
 
+-- of a call that changes nothing anyway
+fall-read : {B G X R : Type 0} {a : Answer} {k : ℕ} → 0 < k → k < 9 → B ⊎ G → Else B (a ≡ no-by k) G X → (X → Refused a (Unit {0}) ⊎ R) → Refused a (Unit {0}) ⊎ R
+fall-read p q d s f = fall p q d (record { no = λ b. (s .no b, tt); on = s .on }) f
+
+-- the list xs in the slice
+abbrev pub Written : List ℕ → List ℕ → ListAnswer → List ℕ → Type 0
+Written xs out r out′ = (list-says r ≡ yes-with (length xs ∷ [])) × (take (length xs) out′ ≡ xs) × (drop (length xs) out′ ≡ drop (length xs) out)
+
+fall-list : (xs out : List ℕ) (r : ListAnswer) (out′ : List ℕ) → Lists xs out r out′ → Refused (list-says r) (out′ ≡ out) ⊎ Written xs out r out′
+fall-list xs out r out′ L = fall (omega arith) (omega arith) (lt-or (length out) (length xs)) (record { no = L .long; on = L .fits }) inr
+
 -- found or room, or neither
-pub room-or : (g : Graph) (h : Head) (x : Term) → ((kept-for g x ≡ none) × Full h x) ⊎ ((kept-for g x ≢ none) ⊎ Room h x)
+room-or : (g : Graph) (h : Head) (x : Term) → ((kept-for g x ≡ none) × Full h x) ⊎ ((kept-for g x ≢ none) ⊎ Room h x)
 room-or g h x = go (kept-for g x) refl (full-or h x)
   where
     go : (o : Option ℕ) → kept-for g x ≡ o → Full h x ⊎ Room h x → ((kept-for g x ≡ none) × Full h x) ⊎ ((kept-for g x ≢ none) ⊎ Room h x)
@@ -176,6 +197,39 @@ room-or g h x = go (kept-for g x) refl (full-or h x)
     go none e (inr f) = inr (inr f)
 
 module _ (us : List (ℕ × ℕ)) (ws : List ℕ) (g : Graph) (C : Run us ws g) where
+  pub find-ends : (i : ℕ) (r : FindAnswer) → FindSays ws i r → Refused (find-says r) (Unit {0}) ⊎ (find-says r ≡ yes-with (root (g .roots) i ∷ []))
+  find-ends i r s = fall-read (omega arith) (omega arith) (or-lt i (ids g)) (find-held us ws g C i r s) inr
+
+  pub node-ends : (i : ℕ) (r : NodeAnswer) → NodeSays ws i r → Refused (node-says r) (Unit {0}) ⊎ (node-says r ≡ yes-with (words (node (g .nodes) i)))
+  node-ends i r s = fall-read (omega arith) (omega arith) (or-lt i (ids g)) (node-held us ws g C i r s) inr
+
+  pub nodes-ends : (out : List ℕ) (r : ListAnswer) (out′ : List ℕ) → NodesSays ws out r out′ → Refused (list-says r) (out′ ≡ out) ⊎ Written (nodes g) out r out′
+  nodes-ends out r out′ s = fall-list (nodes g) out r out′ (nodes-held us ws g C out r out′ s)
+
+  pub lookup-ends : (x : Node) (r : LookupAnswer) → LookupSays ws x r → Refused (lookup-says r) (Unit {0}) ⊎ (lookup-says r ≡ found-as (lookup g (nodeOf x)))
+  lookup-ends x r s =
+      fall-read (omega arith) (omega arith) (lt-or places (x .count)) (lookup-held us ws g C x r s)
+      (λ s. fall-read (omega arith) (omega arith) (low-or (nodeOf x .kids) (ids g)) s inr)
+
+  pub total-ends : (r : CountAnswer) → TotalSays ws r → Refused (count-says r) (Unit {0}) ⊎ (count-says r ≡ yes-with (total-number-of-nodes g ∷ []))
+  total-ends r s = fall-read (omega arith) (omega arith) (clean-or (g .clean)) (total-is us ws g C r s) inr
+
+  pub list-ends : (list : Graph → List ℕ) (out : List ℕ) (r : ListAnswer) (out′ : List ℕ) → ListSays list ws out r out′ → Refused (list-says r) (out′ ≡ out) ⊎ Written (list g) out r out′
+  list-ends list out r out′ s = fall (omega arith) (omega arith) (clean-or (g .clean)) (list-is us ws g C list out r out′ s) (λ L. fall-list (list g) out r out′ L)
+
+  pub cost-ends : (i : ℕ) (r : CostAnswer) (ws′ : List ℕ) → CostSays ws i r ws′ → Refused (cost-says r) (Unit {0}) ⊎ Smallest g i r
+  cost-ends i r ws′ s =
+      fall-read (omega arith) (omega arith) (or-lt i (ids g)) (cost-held us ws g C i r ws′ s)
+      (λ s. fall-read (omega arith) (omega arith) (clean-or (g .clean)) s inr)
+
+  pub form-ends : (i : ℕ) (out : List ℕ) (r : FormAnswer) (ws′ out′ : List ℕ) → FormSays ws i out r ws′ out′
+      → Refused (form-says r) (out′ ≡ out) ⊎ (BestForm g i out r out′ × (form-says r .number ≡ 0))
+  form-ends i out r ws′ out′ s =
+      fall (omega arith) (omega arith) (or-lt i (ids g)) (form-held us ws g C i out r ws′ out′ s)
+      (λ s. fall (omega arith) (omega arith) (clean-or (g .clean)) s
+      (λ B. fall (omega arith) (omega arith) (lt-or (length out) (length (spell (B .nodes)))) (record { no = B .is .long; on = B .is .fits })
+      (λ f. inr (B, ap (λ (a : Answer). a .number) (f .0)))))
+
   pub adding-ends : (id : Graph → ℕ) (x : Node) (r : AddAnswer) (ws′ : List ℕ) → AddingSays id ws x r ws′
       → Refused (add-says r) (ws′ ≡ ws) ⊎ Goes ws (add-says r) (id g ∷ []) ws′ us (add g (nodeOf x) .graph)
   adding-ends id x r ws′ s =

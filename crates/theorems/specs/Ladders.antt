@@ -1,5 +1,6 @@
 -- What the promises settle on any words at all, also on words that hold no graph. Two outcomes of one call on the same words are refused alike, with nothing changed, or
--- neither is refused by what the head and the arguments settle (1, 2, 3, 5, 4 and 7); and no call changes the number of words or a word past the need.
+-- neither is refused by what the head and the arguments settle (1, 2, 3, 5, 4 and 7); and no call changes the number of words, a word past the need, or the length of a
+-- slice lent for a list or a form.
 -- Assumes nothing.
 use mathlib.Core.List.{List}
 use mathlib.Core.Logic.{_⊎_, inl, inr}
@@ -15,6 +16,8 @@ use Rattle.language.specs.declared.Node.{Node}
 use Rattle.steps.specs.Graph.{Graph}
 use Rattle.egraph.specs.Adds.{Adding, AddingSays, LookupOpen, LookupSays, NodeLadder}
 use Rattle.egraph.specs.Answers.{Answer, Else, Good, add-says, count-says, flag-says, head-of, lookup-says, no-by, past, union-says}
+use Rattle.egraph.specs.ClassLists.{ListSays}
+use Rattle.egraph.specs.Listing.{NodesSays}
 use Rattle.egraph.specs.Reads.{CleanSays, CountSays, EmptySays}
 use Rattle.egraph.specs.Rebuilds.{RebuildOpen, RebuildSays}
 use Rattle.egraph.specs.Setup.{SetupSays}
@@ -22,6 +25,7 @@ use Rattle.egraph.specs.Unions.{UnionOpen, UnionSays}
 use Rattle.egraph.specs.declared.AddAnswer.{AddAnswer}
 use Rattle.egraph.specs.declared.CountAnswer.{CountAnswer}
 use Rattle.egraph.specs.declared.FlagAnswer.{FlagAnswer}
+use Rattle.egraph.specs.declared.ListAnswer.{ListAnswer}
 use Rattle.egraph.specs.declared.LookupAnswer.{LookupAnswer}
 use Rattle.egraph.specs.declared.SetupAnswer.{SetupAnswer}
 use Rattle.egraph.specs.declared.UnionAnswer.{UnionAnswer}
@@ -148,6 +152,11 @@ Inside ws ws′ = (length ws′ ≡ length ws) × (past ws ws′ ≡ past ws ws)
 unchanged : {ws ws′ : List ℕ} → ws′ ≡ ws → Inside ws ws′
 unchanged {ws} e = (ap length e, ap (past ws) e)
 
+-- a step of a ladder that refuses with the slice as it was
+slice-down : {B G X : Type 0} {a : Answer} {k : ℕ} {out out′ : List ℕ} → B ⊎ G → Else B ((a ≡ no-by k) × (out′ ≡ out)) G X → (X → length out′ ≡ length out) → length out′ ≡ length out
+slice-down (inl b) s f = ap length (s .no b .1)
+slice-down (inr g) s f = f (s .on g)
+
 module _ (ws ws′ : List ℕ) where
   -- a step of a ladder that refuses with no word changed
   down : {B G X R : Type 0} {a : Answer} {k : ℕ} → (ws′ ≡ ws → R) → B ⊎ G → Else B ((a ≡ no-by k) × (ws′ ≡ ws)) G X → (X → R) → R
@@ -173,5 +182,15 @@ module _ (ws ws′ : List ℕ) where
   pub cost-inside : (i : ℕ) (r : CostAnswer) → CostSays ws i r ws′ → Inside ws ws′
   cost-inside i r s = unchanged (s .same)
 
-  pub form-inside : (i : ℕ) (out : List ℕ) (r : FormAnswer) (out′ : List ℕ) → FormSays ws i out r ws′ out′ → Inside ws ws′
-  form-inside i out r out′ s = unchanged (s .same)
+  pub form-inside : (i : ℕ) (out : List ℕ) (r : FormAnswer) (out′ : List ℕ) → FormSays ws i out r ws′ out′ → Inside ws ws′ × (length out′ ≡ length out)
+  form-inside i out r out′ s = (
+    unchanged (s .same),
+    slice-down (good-or ws) (s .says) (λ s. slice-down (or-lt i (head-of ws .ids)) s (λ s. slice-down (clean-or (head-of ws .clean)) s (λ o. o .fair .size))),
+  )
+
+-- of a slice lent for a list
+pub nodes-inside : (ws out : List ℕ) (r : ListAnswer) (out′ : List ℕ) → NodesSays ws out r out′ → length out′ ≡ length out
+nodes-inside ws out r out′ s = slice-down (good-or ws) (s .says) (λ o. o .size)
+
+pub list-inside : (list : Graph → List ℕ) (ws out : List ℕ) (r : ListAnswer) (out′ : List ℕ) → ListSays list ws out r out′ → length out′ ≡ length out
+list-inside list ws out r out′ s = slice-down (good-or ws) (s .says) (λ s. slice-down (clean-or (head-of ws .clean)) s (λ o. o .size))

@@ -6,3 +6,4 @@ pub mod Forms
 pub mod Held
 pub mod Reached
 pub mod Behind
+pub mod Demands

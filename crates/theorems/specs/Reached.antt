@@ -7,7 +7,7 @@
 use mathlib.Core.Bool.{Bool, false, true}
 use mathlib.Core.List.{List, [], _++_, _∷_}
 use mathlib.Core.Path.{_≡_}
-use Prim.Native.Nat.{ℕ}
+use Prim.Native.Nat.{_+_, ℕ}
 use native.Mathlib.Decide.{ℕ-discrete}
 use lib.ListN.{length}
 use Rattle.lists.specs.Tests.{when}
@@ -78,6 +78,11 @@ nodes-of [] = []
 nodes-of (did-add x i ∷ cs) = when (ℕ-discrete i (length (nodes-of cs))) (nodes-of cs ++ (x ∷ [])) (nodes-of cs)
 nodes-of (did-union i j ∷ cs) = nodes-of cs
 nodes-of (did-rebuild ∷ cs) = nodes-of cs
+
+-- the child places that they take
+abbrev pub child-places : List Term → ℕ
+child-places [] = 0
+child-places (x ∷ xs) = length (x .kids) + child-places xs
 
 -- the unions asked for, the first one first
 abbrev pub unions-of : List Call → List (ℕ × ℕ)
