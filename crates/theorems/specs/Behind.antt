@@ -16,7 +16,7 @@ use Rattle.lists.specs.Tests.{lt-or, when, when-no, when-yes}
 use Rattle.language.specs.Struct.{nodeOf}
 use Rattle.language.specs.Term.{Term}
 use Rattle.language.specs.declared.Node.{Node}
-use Rattle.steps.specs.Forced.{Made, start}
+use Rattle.steps.specs.Forced.{Made}
 use Rattle.steps.specs.Graph.{Graph, ids, root, uses}
 use Rattle.steps.specs.Machine
 use Rattle.steps.specs.Machine.{Rebuild, close, done, fresh, grow, merge, more, step, taken, union-by}
@@ -41,7 +41,7 @@ use Rattle.egraph.specs.declared.UnionAnswer.the-variants.{UnionNo, UnionNot, U
 use Rattle.layout.specs.Cut.{need}
 use Rattle.layout.specs.declared.Head.{Head}
 use Rattle.rows.specs.Rows
-use Rattle.theorems.specs.Course.{Run}
+use Rattle.theorems.specs.Course.{Run, run-setup}
 use Rattle.theorems.specs.Held.{Goes, Refused, adding-ends, rebuild-held, union-ends}
 use Rattle.theorems.specs.Outcomes.{limits-or}
 use Rattle.theorems.specs.Reached
@@ -158,7 +158,7 @@ led-setup n m ws ws′ s = go (limits-or n m) (lt-or (length ws) (need n m))
           fresh,
           refl,
           record {
-            run = record { made = start; holds = o .held };
+            run = run-setup ws n m SetupDone ws′ s l h;
             n-is = ap (λ (k : Head). k .n) (o .limits);
             m-is = ap (λ (k : Head). k .m) (o .limits);
             nodes = refl;

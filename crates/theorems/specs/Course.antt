@@ -1,7 +1,7 @@
--- The sentence that the whole rests on. `setup` makes words that hold the fresh graph; each call takes words that hold a made graph to words that hold a made graph, and
--- refuses without a change; so demand 3 speaks of the words: what `find` answers.
+-- Call by call: `setup` makes words that hold the fresh graph, and each call takes words that hold a made graph to words that hold a made graph; so demand 3 speaks of the
+-- words: what `find` answers. Whole runs of calls are the subject of Reached and Behind.
 -- Assumes nothing.
-use mathlib.Core.Bool.{Bool, false, true}
+use mathlib.Core.Bool.{true}
 use mathlib.Core.List.{List, [], _++_, _∷_}
 use mathlib.Core.Logic.{_↔_, _⊎_, inl, inr}
 use mathlib.Core.Option.{Option, none, some}
@@ -17,19 +17,18 @@ use Rattle.language.specs.declared.Node.{Node}
 use Rattle.steps.specs.Forced.{Forced, Made, added, joined, rebuilt, start}
 use Rattle.steps.specs.Graph.{Graph, ids, root}
 use Rattle.steps.specs.Machine.{Given, Rebuild, add, add-uncanonical, fresh, union}
-use Rattle.closure.specs.Closed.{again, demand-3, rebuilt-clean, sound}
+use Rattle.closure.specs.Closed.{again, demand-3, sound}
 use Rattle.closure.specs.Ends.{ends}
 use Rattle.adding.specs.Says.{Known, Room, kept-for}
 use Rattle.egraph.specs.Adds.{Adding, AddingSays, given-old}
-use Rattle.egraph.specs.Answers.{Answer, SameLimits, add-says, count-says, find-says, flag, flag-says, head-of, union-says, yes-with}
-use Rattle.egraph.specs.Reads.{CleanSays, FindSays}
+use Rattle.egraph.specs.Answers.{Answer, SameLimits, add-says, count-says, find-says, flag, head-of, union-says, yes-with}
+use Rattle.egraph.specs.Reads.{FindSays}
 use Rattle.egraph.specs.Rebuilds.{RebuildSays}
 use Rattle.egraph.specs.Setup.{Limits, SetupSays}
 use Rattle.egraph.specs.Unions.{UnionSays}
 use Rattle.egraph.specs.declared.AddAnswer.{AddAnswer}
 use Rattle.egraph.specs.declared.CountAnswer.{CountAnswer}
 use Rattle.egraph.specs.declared.FindAnswer.{FindAnswer}
-use Rattle.egraph.specs.declared.FlagAnswer.{FlagAnswer}
 use Rattle.egraph.specs.declared.SetupAnswer.{SetupAnswer}
 use Rattle.egraph.specs.declared.UnionAnswer.{UnionAnswer}
 use Rattle.holds.specs.Holds.{Holds}
@@ -91,10 +90,6 @@ module _ (us : List (ℕ × ℕ)) (ws : List ℕ) (g : Graph) (C : Run us ws g) 
       let o = s .on (C .holds .good) .sound g us (C .holds) (C .made) y t z R in
       (o .0, record { made = rebuilt R (C .made); holds = o .1 })
 
-  -- refused calls leave the words, as sizes and forms always do, so the graph and the unions asked for stay
-  pub run-refused : (ws′ : List ℕ) → ws′ ≡ ws → Run us ws′ g
-  run-refused ws′ e = rw e C
-
   -- what `find` answers of a known id
   find-is : (i : ℕ) (r : FindAnswer) → FindSays ws i r → i < ids g → find-says r ≡ yes-with (root (g .roots) i ∷ [])
   find-is i r s h = s .on (C .holds .good) .on (omega (arith, ids-in)) .sound g (C .holds)
@@ -108,40 +103,15 @@ module _ (us : List (ℕ × ℕ)) (ws : List ℕ) (g : Graph) (C : Run us ws g) 
       first : (a b : ℕ) → _≡_ {A = Answer} (yes-with (a ∷ [])) (yes-with (b ∷ [])) → a ≡ b
       first a b q = ap (λ (t : Answer). at (t .values) 0) q
 
-  -- what `clean` says
-  clean-is : (c : FlagAnswer) → CleanSays ws c → flag-says c ≡ yes-with (1 ∷ []) → g .clean ≡ true
-  clean-is c S e = is-true (g .clean) (sym e ∙ S .on (C .holds .good) .sound g (C .holds))
-    where
-      is-true : (b : Bool) → _≡_ {A = Answer} (yes-with (1 ∷ [])) (yes-with (flag b)) → b ≡ true
-      is-true true q = refl
-      is-true false q = let z : _≡_ {A = ℕ} 1 0 = ap (λ (t : Answer). at (t .values) 0) q in absurd (omega arith)
-
   -- demand 3 of the words that hold a clean graph: two ids are answered alike by `find` exactly when the unions asked for force them equal
-  pub held-demand-3 : g .clean ≡ true → (i j : ℕ) (r r′ : FindAnswer) → FindSays ws i r → FindSays ws j r′ → i < ids g → j < ids g → (find-says r ≡ find-says r′) ↔ Forced (g .nodes) us i j
-  held-demand-3 c i j r r′ s t hi hj =
+  pub words-demand-3 : g .clean ≡ true → (i j : ℕ) (r r′ : FindAnswer) → FindSays ws i r → FindSays ws j r′ → i < ids g → j < ids g → (find-says r ≡ find-says r′) ↔ Forced (g .nodes) us i j
+  words-demand-3 c i j r r′ s t hi hj =
       (words-sound i j r r′ s t hi hj, λ f. find-is i r s hi ∙ ap (λ (k : ℕ). yes-with (k ∷ [])) (demand-3 (C .made) c i j .1 f) ∙ sym (find-is j r′ t hj))
 
   -- another rebuild of them answers 0, and the words hold the same graph under the same limits, so that no answer is altered
-  pub held-again : g .clean ≡ true → (r : CountAnswer) (ws′ : List ℕ) → RebuildSays ws r ws′ → (count-says r ≡ yes-with (0 ∷ [])) × Run us ws′ g × SameLimits ws ws′
-  held-again c r ws′ s =
+  pub words-again : g .clean ≡ true → (r : CountAnswer) (ws′ : List ℕ) → RebuildSays ws r ws′ → (count-says r ≡ yes-with (0 ∷ [])) × Run us ws′ g × SameLimits ws ws′
+  words-again c r ws′ s =
       let E = ends (C .made) in
       let a = again (C .made) c (E .3) in
       let o = run-rebuild r ws′ s (E .0) (E .1) (E .2) (E .3) in
       (o .0 ∙ ap (λ (k : ℕ). yes-with (k ∷ [])) (a .0), subst (λ (z : Graph). Run us ws′ z) (a .2) (o .1), s .on (C .holds .good) .limits)
-
-  -- both where `clean` says yes
-  pub words-demand-3 : (c : FlagAnswer) → CleanSays ws c → flag-says c ≡ yes-with (1 ∷ []) → (i j : ℕ) (r r′ : FindAnswer) → FindSays ws i r → FindSays ws j r′ → i < ids g → j < ids g
-      → (find-says r ≡ find-says r′) ↔ Forced (g .nodes) us i j
-  words-demand-3 c S e = held-demand-3 (clean-is c S e)
-
-  pub words-again : (c : FlagAnswer) → CleanSays ws c → flag-says c ≡ yes-with (1 ∷ []) → (r : CountAnswer) (ws′ : List ℕ) → RebuildSays ws r ws′
-      → (count-says r ≡ yes-with (0 ∷ [])) × Run us ws′ g × SameLimits ws ws′
-  words-again c S e = held-again (clean-is c S e)
-
--- after a rebuild `clean` says yes
-pub rebuilt-says-clean : (us : List (ℕ × ℕ)) (ws : List ℕ) (g : Graph) → Run us ws g → (r : CountAnswer) (ws′ : List ℕ) → RebuildSays ws r ws′
-    → (c : FlagAnswer) → CleanSays ws′ c → flag-says c ≡ yes-with (1 ∷ [])
-rebuilt-says-clean us ws g C r ws′ s c S =
-    let E = ends (C .made) in
-    let D = run-rebuild us ws g C r ws′ s (E .0) (E .1) (E .2) (E .3) .1 in
-    S .on (D .holds .good) .sound (E .2) (D .holds) ∙ ap (λ (b : Bool). yes-with (flag b)) (rebuilt-clean (E .3))

@@ -46,7 +46,7 @@ use Rattle.extract.specs.declared.CostAnswer.{CostAnswer}
 use Rattle.extract.specs.declared.FormAnswer.{FormAnswer}
 use Rattle.layout.specs.Cut.{need}
 use Rattle.theorems.specs.Behind.{behind, places-are, reached}
-use Rattle.theorems.specs.Course.{Run, held-again, held-demand-3, words-sound}
+use Rattle.theorems.specs.Course.{Run, words-again, words-demand-3, words-sound}
 use Rattle.theorems.specs.Forms.{BestForm, form-one}
 use Rattle.theorems.specs.Held
 use Rattle.theorems.specs.Held.{CleanLadder, GivenLadder, Goes, IdLadder, No, Refused, Written}
@@ -158,10 +158,6 @@ LongLadder xs out No8 Next = Else (length out < length xs) No8 (length xs ≤ le
 
 -- on words that hold g, under the limits n and m: each refusal by its number exactly when document 01 says, in its order, and nothing has changed; else accepted
 pub record Refuses (n m : ℕ) (g : Graph) (ws : List ℕ) : Type 0 where
-  pub setup : (k l : ℕ) (r : SetupAnswer) (ws′ : List ℕ) → SetupSays ws k l r ws′
-      → Fair (setup-says r) (ws′ ≡ ws)
-      × Else (Limits k l → ⊥) (No (setup-says r) (ws′ ≡ ws) 1) (Limits k l)
-      (Else (length ws < need k l) (No (setup-says r) (ws′ ≡ ws) 2) (need k l ≤ length ws) (Accepted (setup-says r)))
   pub find : (i : ℕ) (r : FindAnswer) → FindSays ws i r → Not-9 (find-says r) × IdLadder g i (find-says r ≡ no-by 4) (Accepted (find-says r))
   pub lookup : (x : Node) (r : LookupAnswer) → LookupSays ws x r → Not-9 (lookup-says r) × GivenLadder g x (λ k. lookup-says r ≡ no-by k) (Accepted (lookup-says r))
   pub add : (x : Node) (r : AddAnswer) (ws′ : List ℕ) → AddSays ws x r ws′ → Fair (add-says r) (ws′ ≡ ws) × AddLadder n m g x (No (add-says r) (ws′ ≡ ws)) (Accepted (add-says r))
@@ -208,10 +204,15 @@ answer : {a : Answer} {S X : Type 0} → Refused a S ⊎ X → Accepted a → X
 answer (inl p) e = absurd (omega (arith, p .some, ap (λ (a : Answer). a .number) (p .is)))
 answer (inr x) e = x
 
-setup-fair : (ws : List ℕ) (k l : ℕ) (r : SetupAnswer) (ws′ : List ℕ) → SetupSays ws k l r ws′ → Fair (setup-says r) (ws′ ≡ ws)
-setup-fair ws k l r ws′ s =
-    fair (λ o. accepted o)
-    (Held.fall (omega arith) (omega arith) (Outcomes.limits-or k l) s (λ s. Held.fall (omega arith) (omega arith) (lt-or (length ws) (need k l)) s (λ o. inr (o .done))))
+-- setup, on any words
+pub demand-1-setup : (ws : List ℕ) (n m : ℕ) (r : SetupAnswer) (ws′ : List ℕ) → SetupSays ws n m r ws′
+    → Fair (setup-says r) (ws′ ≡ ws)
+    × Else (Limits n m → ⊥) (No (setup-says r) (ws′ ≡ ws) 1) (Limits n m)
+    (Else (length ws < need n m) (No (setup-says r) (ws′ ≡ ws) 2) (need n m ≤ length ws) (Accepted (setup-says r)))
+demand-1-setup ws n m r ws′ s = (
+  fair accepted (Held.fall (omega arith) (omega arith) (Outcomes.limits-or n m) s (λ s. Held.fall (omega arith) (omega arith) (lt-or (length ws) (need n m)) s (λ o. inr (o .done)))),
+  onto (λ t. onto (λ o. accepted (o .done)) t) s,
+)
 
 long : (xs out : List ℕ) (r : ListAnswer) (out′ : List ℕ) → Lists xs out r out′ → LongLadder xs out (No (list-says r) (out′ ≡ out) 8) (Accepted (list-says r))
 long xs out r out′ t = record { no = t .long; on = λ h. accepted (t .fits h .0) }
@@ -247,7 +248,6 @@ module _ (n m : ℕ) (us : List (ℕ × ℕ)) (ws : List ℕ) (g : Graph) (C : R
 
   refuses : Refuses n m g ws
   refuses = record {
-    setup = λ k l r ws′ s. (setup-fair ws k l r ws′ s, onto (λ t. onto (λ o. accepted (o .done)) t) s);
     find = λ i r s. (fair accepted (Held.find-ends us ws g C i r s) .not-9, onto accepted (Held.find-held us ws g C i r s));
     lookup = λ x r s. (fair (found-accepted r (Machine.lookup g (nodeOf x))) (Held.lookup-ends us ws g C x r s) .not-9, onto (λ t. onto (found-accepted r (Machine.lookup g (nodeOf x))) t) (Held.lookup-held us ws g C x r s));
     add = λ x r ws′ s. add-refuses _ x r ws′ s;
@@ -348,7 +348,7 @@ demand-3 {cs = cs} {ws = ws} R e i j hi hj r r′ s t =
     let l = reached R in
     let B = l .2 in
     subst (λ (ns : List Term). (find-says r ≡ find-says r′) ↔ Forced ns (unions-of cs) i j) (B .nodes)
-    (held-demand-3 (unions-of cs) ws (l .0) (B .run) (B .clean ∙ e) i j r r′ s t (omega (arith, ap length (B .nodes))) (omega (arith, ap length (B .nodes))))
+    (words-demand-3 (unions-of cs) ws (l .0) (B .run) (B .clean ∙ e) i j r r′ s t (omega (arith, ap length (B .nodes))) (omega (arith, ap length (B .nodes))))
 
 -- ---- demand 3, on. Before a rebuild, one root still means forced equal.
 
@@ -409,7 +409,7 @@ same-answers us vs ws ws′ g C D L =
       find-best = λ i out r r′ w w′ o o′ s t. let a = form-one ws ws′ g H K L (made-known (C .made)) i out r r′ w w′ o o′ s t in (a .0 .answer, a .1);
     }
 
--- two runs under the same limits whose accepted calls lead to one graph, the same calls say, are answered alike from there on
+-- two runs under the same limits whose accepted calls lead to one graph, as the same calls do, are answered alike by every call
 pub one-run : {n m : ℕ} {cs ds : List Call} {ws ws′ : List ℕ} (g : Graph) → Reached n m cs ws → Reached n m ds ws′ → Leads cs g → Leads ds g → SameAnswers ws ws′
 one-run {cs = cs} {ds = ds} {ws = ws} {ws′ = ws′} g R S L K =
     let A = behind R L in
@@ -425,7 +425,7 @@ leads-on (did-rebuild ∷ ds) cs cs′ f h l = (l .0, leads-on ds cs cs′ f (l 
 
 module _ {n m : ℕ} {cs : List Call} {ws : List ℕ} (R : Reached n m cs ws) (e : rebuilt cs ≡ true) where
   pub demand-3-again : (r : CountAnswer) (ws′ : List ℕ) → RebuildSays ws r ws′ → count-says r ≡ yes-with (0 ∷ [])
-  demand-3-again r ws′ s = let l = reached R in held-again (unions-of cs) ws (l .0) (l .2 .run) (l .2 .clean ∙ e) r ws′ s .0
+  demand-3-again r ws′ s = let l = reached R in words-again (unions-of cs) ws (l .0) (l .2 .run) (l .2 .clean ∙ e) r ws′ s .0
 
   -- whatever calls ds are accepted later, none at first: with or without another rebuild before them every call is answered alike
   pub demand-3-alters-nothing : (ds : List Call) (w w′ : List ℕ) → Reached n m (ds ++ cs) w → Reached n m (ds ++ (did-rebuild ∷ cs)) w′ → SameAnswers w w′
