@@ -156,7 +156,8 @@ AddLadder n m g x No Next =
 abbrev pub LongLadder : List ℕ → List ℕ → Type 0 → Type 0 → Type 0
 LongLadder xs out No8 Next = Else (length out < length xs) No8 (length xs ≤ length out) Next
 
--- on words that hold g, under the limits n and m: each refusal by its number exactly when document 01 says, in its order, and nothing has changed; else accepted
+-- under the limits n and m, each refusal by its number exactly when document 01 says, in its order, and nothing has changed; else accepted. g is the graph of the run: its
+-- ids are the nodes that have one, and it is clean where a rebuild has ended and no node or union has come since (`Behind`)
 pub record Refuses (n m : ℕ) (g : Graph) (ws : List ℕ) : Type 0 where
   pub find : (i : ℕ) (r : FindAnswer) → FindSays ws i r → Not-9 (find-says r) × IdLadder g i (find-says r ≡ no-by 4) (Accepted (find-says r))
   pub lookup : (x : Node) (r : LookupAnswer) → LookupSays ws x r → Not-9 (lookup-says r) × GivenLadder g x (λ k. lookup-says r ≡ no-by k) (Accepted (lookup-says r))
