@@ -3,9 +3,10 @@
 -- Assumes nothing.
 use mathlib.Core.Bool.{Bool, false, true}
 use mathlib.Core.List.{List, [], _∷_, cons≢nil}
-use mathlib.Core.Logic.{_⊎_}
-use mathlib.Core.Path.{_∙_, _≡_, ap, subst, sym}
+use mathlib.Core.Logic.{_⊎_, inl, inr}
+use mathlib.Core.Path.{_∙_, _≡_, ap, refl, subst, sym}
 use Prim.Native.Nat.{_<_, _≤_, ℕ}
+use native.Mathlib.Omega.{arith}
 use lib.ListN.{drop, length, take}
 use Rattle.language.specs.Struct.{nodeOf}
 use Rattle.language.specs.Term.{words}
@@ -184,6 +185,51 @@ pub record ListOpen (list : Graph → List ℕ) (Whole : Head → List ℕ → T
   pub size : length out′ ≡ length out
   pub refused : (k : ℕ) → list-says r ≡ no-by k → ((k ≡ 9) ⊎ (k ≡ 8)) × (out′ ≡ out)
   pub sound : (g : Graph) → Holds ws g → Lists (list g) out r out′
+
+pub words≢not : (x : ℕ) (q : Refusal) → ListWords x ≡ ListNot q → ⊥
+words≢not x q p = let z : _≡_ {A = ℕ} 0 1 = cc in omega arith
+
+-- the three ways out of a list, with the head h in hand; what whole words read as is for a graph that they hold its list
+module _ (list : Graph → List ℕ) (Whole : Head → List ℕ → Type 0) (reads : Head → List ℕ → List ℕ) (ws : List ℕ) (h : Head) (q : HeadIs (length ws) (hd ws) h) (out : List ℕ) where
+  pub open-broken : (Whole h ws → ⊥) → ((g : Graph) → Holds ws g → Whole h ws) → ListOpen list Whole reads ws out (ListNot BrokenWords) out
+  open-broken b w = record {
+    exact = subst (λ (s : Head). ListAt (Whole s ws) (reads s ws) out (ListNot BrokenWords) out) (q .is) (stop b (λ x y. x y) (refl, refl));
+    inside = λ k p. absurd (words≢not k BrokenWords (sym p));
+    size = refl;
+    refused = λ k p. (inl (nine k p), refl);
+    sound = λ g H. absurd (b (w g H));
+  }
+
+  module _ (u : Whole h ws) (is : (g : Graph) → Holds ws g → reads h ws ≡ list g) where
+    told : (r : ListAnswer) (out′ : List ℕ) → Lists (reads h ws) out r out′ → ListAt (Whole (head-of ws) ws) (reads (head-of ws) ws) out r out′
+    told r out′ L = subst (λ (s : Head). ListAt (Whole s ws) (reads s ws) out r out′) (q .is) (pass u (λ x y. x y) L)
+
+    held : (r : ListAnswer) (out′ : List ℕ) → Lists (reads h ws) out r out′ → (g : Graph) → Holds ws g → Lists (list g) out r out′
+    held r out′ L g H = subst (λ (xs : List ℕ). Lists xs out r out′) (is g H) L
+
+    pub open-long : length out < length (reads h ws) → ListOpen list Whole reads ws out (ListNot TooLong) out
+    open-long l =
+        let L : Lists (reads h ws) out (ListNot TooLong) out = record { long = λ _. (refl, refl); fits = λ b. absurd (omega arith) } in
+        record {
+          exact = told (ListNot TooLong) out L;
+          inside = λ k p. absurd (words≢not k TooLong (sym p));
+          size = refl;
+          refused = λ k p. (inr (sym (ap (λ (a : Answer). a .number) p)), refl);
+          sound = held (ListNot TooLong) out L;
+        }
+
+    pub open-written : (k : ℕ) (out′ : List ℕ) → k ≡ length (reads h ws) → k ≤ length out → length out′ ≡ length out → take k out′ ≡ reads h ws → drop k out′ ≡ drop k out
+        → ListOpen list Whole reads ws out (ListWords k) out′
+    open-written k out′ e l size front back =
+        let L : Lists (reads h ws) out (ListWords k) out′ =
+        record { long = λ b. absurd (omega arith); fits = λ _. (ap (λ (x : ℕ). yes-with (x ∷ [])) e, rw e at front, rw e at back) } in
+        record {
+          exact = told (ListWords k) out′ L;
+          inside = λ j p. let t : j ≡ k = cc in omega arith;
+          size = size;
+          refused = λ j p. absurd (never j k p);
+          sound = held (ListWords k) out′ L;
+        }
 
 -- what the head says is what the graph says
 pub held-clean : {ws : List ℕ} {g : Graph} → Holds ws g → head-of ws .clean ≡ g .clean

@@ -3,7 +3,6 @@
 -- Assumes nothing.
 use mathlib.Core.Bool.{Bool, false, true}
 use mathlib.Core.List.{List, [], _∷_}
-use mathlib.Core.Logic.{inl, inr}
 use mathlib.Core.Path.{_∙_, _≡_, ap, refl, subst, sym}
 use Prim.Native.Nat.{_<_, _≤_, ℕ}
 use native.Mathlib.Omega.{arith}
@@ -19,8 +18,7 @@ use Rattle.eclass.specs.Ops.{ops-are, ops-in}
 use Rattle.eclass.specs.Pieces.{Wrote, wrote-back, wrote-front}
 use Rattle.eclass.specs.declared.Total.{Total}
 use Rattle.eclass.specs.declared.Total.the-variants.{TotalBroken, TotalIs}
-use Rattle.egraph.specs.Answers.{Answer, Else, ListAt, ListOpen, Lists, Unless-3, Unless-7, cleaned, count-says, head-of, held-clean, list-says, never, nine, no-by, opened, pass, shut, stop, unclean, yes-with}
-use Rattle.egraph.specs.Listing.{words≢not}
+use Rattle.egraph.specs.Answers.{Else, ListOpen, Lists, Unless-3, Unless-7, cleaned, count-says, head-of, held-clean, list-says, never, nine, no-by, open-broken, open-long, open-written, opened, pass, shut, stop, unclean, words≢not, yes-with}
 use Rattle.egraph.specs.declared.CountAnswer.{CountAnswer}
 use Rattle.egraph.specs.declared.CountAnswer.the-variants.{CountIs, CountNot}
 use Rattle.egraph.specs.declared.ListAnswer.{ListAnswer}
@@ -59,15 +57,15 @@ pub total-held : (ws : List ℕ) (g : Graph) → Holds ws g → (r : CountAnswer
     → Else (g .clean ≡ false) (count-says r ≡ no-by 7) (g .clean ≡ true) (count-says r ≡ yes-with (total-number-of-nodes g ∷ []))
 total-held ws g H r s = let t = s .on (H .good) in record { no = λ e. t .no (held-clean H ∙ e); on = λ e. t .on (held-clean H ∙ e) .sound g H }
 
+over : (x y : ℕ) → x < y → y ≤ x → ⊥
+over x y a b = omega arith
+
 module _ (ws : List ℕ) (h : Head) (q : HeadIs (length ws) (hd ws) h) (c : h .clean ≡ true) where
   -- a graph that these words hold is clean
   its-clean : (g : Graph) → Holds ws g → g .clean ≡ true
   its-clean g H = sym (holds-in ws h g q H .clean-is) ∙ c
 
   module _ (r : Total) (T : Totals (view (h .n) (h .m) ws .members) (h .n) (h .ids) r) where
-    over : (x y : ℕ) → x < y → y ≤ x → ⊥
-    over x y a b = omega arith
-
     pub total-broken : r ≡ TotalBroken → TotalOpen ws (CountNot BrokenWords)
     total-broken e = record {
       exact = subst (λ (s : Head). TotalAt s ws (CountNot BrokenWords)) (q .is) (stop (T .broken e) (over _ _) refl);
@@ -125,45 +123,18 @@ module _ (list : Graph → List ℕ) (reads : Head → List ℕ → List ℕ) (w
 
 module _ (list : Graph → List ℕ) (reads : Head → List ℕ → List ℕ) (ws : List ℕ) (h : Head) (q : HeadIs (length ws) (hd ws) h) (c : h .clean ≡ true) (out : List ℕ) where
   pub list-broken : (b : Bool) → Says b (UnbrokenIn h ws) → b ≡ false → ListOpen list UnbrokenIn reads ws out (ListNot BrokenWords) out
-  list-broken b s e = record {
-    exact = subst (λ (k : Head). ListAt (UnbrokenIn k ws) (reads k ws) out (ListNot BrokenWords) out) (q .is) (stop (s .fails e) (λ a b. a b) (refl, refl));
-    inside = λ k p. absurd (words≢not k BrokenWords (sym p));
-    size = refl;
-    refused = λ k p. (inl (nine k p), refl);
-    sound = λ g H. absurd (s .fails e (unbroken (holds-in ws h g q H) (its-clean ws h q c g H)));
-  }
+  list-broken b s e = open-broken list UnbrokenIn reads ws h q out (s .fails e) (λ g H. unbroken (holds-in ws h g q H) (its-clean ws h q c g H))
 
   -- the words are whole; what they read as is for a graph that they hold its list, and k is how long it is
   module _ (u : UnbrokenIn h ws) (is : (g : Graph) → Holds ws g → reads h ws ≡ list g) (k : ℕ) (e : k ≡ length (reads h ws)) where
-    told : (a : ListAnswer) (out′ : List ℕ) → Lists (reads h ws) out a out′ → ListAt (UnbrokenIn (head-of ws) ws) (reads (head-of ws) ws) out a out′
-    told a out′ L = subst (λ (s : Head). ListAt (UnbrokenIn s ws) (reads s ws) out a out′) (q .is) (pass u (λ b c. b c) L)
-
-    held : (a : ListAnswer) (out′ : List ℕ) → Lists (reads h ws) out a out′ → (g : Graph) → Holds ws g → Lists (list g) out a out′
-    held a out′ L g H = subst (λ (xs : List ℕ). Lists xs out a out′) (is g H) L
-
     pub list-long : length out < k → ListOpen list UnbrokenIn reads ws out (ListNot TooLong) out
-    list-long l =
-        let L : Lists (reads h ws) out (ListNot TooLong) out = record { long = λ _. (refl, refl); fits = λ b. absurd (omega arith) } in
-        record {
-          exact = told (ListNot TooLong) out L;
-          inside = λ j p. absurd (words≢not j TooLong (sym p));
-          size = refl;
-          refused = λ j p. (inr (sym (ap (λ (a : Answer). a .number) p)), refl);
-          sound = held (ListNot TooLong) out L;
-        }
+    list-long l = open-long list UnbrokenIn reads ws h q out u is (omega arith)
 
     pub list-written : k ≤ length out → (p : ℕ) (out′ : List ℕ) → Wrote out 0 (reads h ws) p out′ → ListOpen list UnbrokenIn reads ws out (ListWords p) out′
     list-written l p out′ w =
         let n : p ≡ length (reads h ws) = omega (arith, w .next) in
-        let L : Lists (reads h ws) out (ListWords p) out′ =
-        record { long = λ b. absurd (omega arith); fits = λ b. (ap (λ (y : ℕ). yes-with (y ∷ [])) n, wrote-front w b, wrote-back w b) } in
-        record {
-          exact = told (ListWords p) out′ L;
-          inside = λ j s. let t : j ≡ p = cc in omega arith;
-          size = w .size;
-          refused = λ j s. absurd (never j p s);
-          sound = held (ListWords p) out′ L;
-        }
+        let b : length (reads h ws) ≤ length out = omega arith in
+        open-written list UnbrokenIn reads ws h q out u is p out′ n (omega arith) (w .size) (rw n (wrote-front w b)) (rw n (wrote-back w b))
 
 -- what the words say of the classes with an operator
 pub its-ops : (ws : List ℕ) (h : Head) → HeadIs (length ws) (hd ws) h → h .clean ≡ true → (o : ℕ) (g : Graph) → Holds ws g

@@ -2,7 +2,6 @@
 -- comes on words that hold a graph. A list that is refused leaves the slice lent for it as it was.
 -- Assumes nothing.
 use mathlib.Core.List.{List, [], _∷_}
-use mathlib.Core.Logic.{inl, inr}
 use mathlib.Core.Path.{_∙_, _≡_, ap, refl, subst, sym}
 use Prim.Native.Nat.{_+_, _<_, _≤_, ℕ}
 use native.Mathlib.Decide.{ℕ-discrete}
@@ -13,7 +12,7 @@ use Rattle.language.specs.Struct.{nodeOf}
 use Rattle.language.specs.Term.{Term, places, spell, words}
 use Rattle.steps.specs.Classes.{nodes}
 use Rattle.steps.specs.Graph.{Graph, node}
-use Rattle.egraph.specs.Answers.{Answer, Else, ListAt, ListOpen, Lists, Unless-3, Unless-9, head-of, list-says, never, nine, no-by, node-says, number-of, pass, stop, yes-with}
+use Rattle.egraph.specs.Answers.{Else, ListOpen, Unless-3, Unless-9, head-of, list-says, never, nine, no-by, node-says, number-of, open-broken, open-long, open-written, pass, stop, words≢not, yes-with}
 use Rattle.egraph.specs.Stored.{long-more, stored, stored-is}
 use Rattle.egraph.specs.declared.ListAnswer.{ListAnswer}
 use Rattle.egraph.specs.declared.ListAnswer.the-variants.{ListNot, ListWords}
@@ -143,9 +142,6 @@ pub record Measured (rs : List ℕ) (n m k : ℕ) (r : ListAnswer) : Type 0 wher
   pub sane : (x : ℕ) → r ≡ ListWords x → (i : ℕ) → i < k → Sane rs n m i
   pub broken : (q : Refusal) → r ≡ ListNot q → (q ≡ BrokenWords) × (((i : ℕ) → i < k → Sane rs n m i) → ⊥)
 
-pub words≢not : (x : ℕ) (q : Refusal) → ListWords x ≡ ListNot q → ⊥
-words≢not x q p = zero-one cc
-
 module _ (rs : List ℕ) (n m i : ℕ) (f : Fetched) (G : Given rs n m i f) where
   pub row-broken : f .out ≡ FetchBroken → RowWords rs n m i (ListNot BrokenWords)
   row-broken e = record {
@@ -201,55 +197,22 @@ module _ (ws : List ℕ) (h : Head) (q : HeadIs (length ws) (hd ws) h) (out : Li
   its-nodes : (g : Graph) → Holds ws g → stored rs (h .n) (h .m) (h .ids) ≡ g .nodes
   its-nodes g H = let K = holds-in ws h g q H in rw (K .ids-are) (stored-is rs (h .n) (h .m) (g .nodes) (K .nodes .keys) (K .nodes .rows))
 
+  its-list : (g : Graph) → Holds ws g → nodes-in h ws ≡ nodes g
+  its-list g H = ap spell (its-nodes g H)
+
   its-rows : (g : Graph) → Holds ws g → (i : ℕ) → i < h .ids → Sane rs (h .n) (h .m) i
   its-rows g H i l = let K = holds-in ws h g q H in sane rs (h .n) (h .m) (g .nodes) (K .nodes .keys) (K .nodes .rows) i (omega (arith, K .ids-are))
 
   module _ (r : ListAnswer) (M : Measured rs (h .n) (h .m) (h .ids) r) where
     pub nodes-broken : (p : Refusal) → r ≡ ListNot p → NodesOpen ws out (ListNot p) out
-    nodes-broken p e =
-        let nine-is : no-by (number-of p) ≡ no-by 9 = ap (λ (t : Refusal). no-by (number-of t)) (M .broken p e .0) in
-        record {
-          exact = subst (λ (s : Head). ListAt (RowsIn s ws) (nodes-in s ws) out (ListNot p) out) (q .is) (stop (M .broken p e .1) (λ a b. a b) (nine-is, refl));
-          inside = λ k s. absurd (words≢not k p (sym s));
-          size = refl;
-          refused = λ k s. (inl (nine k (sym nine-is ∙ s)), refl);
-          sound = λ g H. absurd (M .broken p e .1 (its-rows g H));
-        }
+    nodes-broken p e = let b = M .broken p e in rw (b .0) (open-broken nodes RowsIn nodes-in ws h q out (b .1) its-rows)
 
     module _ (x : ℕ) (e : r ≡ ListWords x) where
-      -- the list of whole rows, and of a graph that they hold
-      told : (a : ListAnswer) (out′ : List ℕ) → Lists (nodes-in h ws) out a out′ → ListAt (RowsIn (head-of ws) ws) (nodes-in (head-of ws) ws) out a out′
-      told a out′ L = subst (λ (s : Head). ListAt (RowsIn s ws) (nodes-in s ws) out a out′) (q .is) (pass (M .sane x e) (λ b c. b c) L)
-
-      held : (a : ListAnswer) (out′ : List ℕ) → Lists (nodes-in h ws) out a out′ → (g : Graph) → Holds ws g → Lists (nodes g) out a out′
-      held a out′ L g H = subst (λ (ts : List Term). Lists (spell ts) out a out′) (its-nodes g H) L
-
       pub nodes-long : length out < x → NodesOpen ws out (ListNot TooLong) out
-      nodes-long l =
-          let L : Lists (nodes-in h ws) out (ListNot TooLong) out = record { long = λ _. (refl, refl); fits = λ b. absurd (omega (arith, M .whole x e)) } in
-          record {
-            exact = told (ListNot TooLong) out L;
-            inside = λ k s. absurd (words≢not k TooLong (sym s));
-            size = refl;
-            refused = λ k s. (inr (sym (ap (λ (a : Answer). a .number) s)), refl);
-            sound = held (ListNot TooLong) out L;
-          }
+      nodes-long l = open-long nodes RowsIn nodes-in ws h q out (M .sane x e) its-list (omega (arith, M .whole x e))
 
       pub nodes-fit : x ≤ length out → length (nodes-in h ws) ≤ length out
       nodes-fit l = omega (arith, M .whole x e)
 
       pub nodes-listed : x ≤ length out → (p : ℕ) (out′ : List ℕ) → Listed out (stored rs (h .n) (h .m) (h .ids)) p out′ → NodesOpen ws out (ListWords p) out′
-      nodes-listed l p out′ S =
-          let n : p ≡ length (nodes-in h ws) = S .place in
-          let L : Lists (nodes-in h ws) out (ListWords p) out′ =
-          record {
-            long = λ b. absurd (omega (arith, M .whole x e));
-            fits = λ _. (ap (λ (y : ℕ). yes-with (y ∷ [])) n, rw n at (S .front), rw n at (S .back));
-          } in
-          record {
-            exact = told (ListWords p) out′ L;
-            inside = λ k s. let t : k ≡ p = cc in omega (arith, M .whole x e, S .place);
-            size = S .size;
-            refused = λ k s. absurd (never k p s);
-            sound = held (ListWords p) out′ L;
-          }
+      nodes-listed l p out′ L = open-written nodes RowsIn nodes-in ws h q out (M .sane x e) its-list p out′ (L .place) (omega (arith, M .whole x e, L .place)) (L .size) (L .front) (L .back)

@@ -1,8 +1,7 @@
 use mathlib.Core.Path.{refl, sym}
-use Rattle.egraph.specs.Listing.{words≢not}
 use Rattle.egraph.specs.declared.Refusal.the-variants.{BadHead}
 use Rattle.layout.specs.Head.{head-is}
-use Rattle.egraph.specs.Answers.{shut, opened}
+use Rattle.egraph.specs.Answers.{shut, opened, words≢not}
 use borrow.Author.Needs.{needs}
 use Rattle.egraph.proofs.listing.nodes.Statement.{statement}
 use Rattle.egraph.proofs.listing.nodes.Tie as tie
