@@ -8,6 +8,7 @@ use mathlib.Core.Path.{_∙_, _≡_, ap, refl, subst, sym}
 use Prim.Native.Nat.{_<_, _≤_, ℕ}
 use native.Mathlib.Omega.{arith}
 use lib.ListN.{drop, length, take}
+use Rattle.lists.specs.Tests.{zero-one}
 use Rattle.language.specs.Struct.{nodeOf}
 use Rattle.language.specs.Term.{words}
 use Rattle.steps.specs.Graph.{Graph}
@@ -187,7 +188,7 @@ pub record ListOpen (list : Graph → List ℕ) (Whole : Head → List ℕ → T
   pub sound : (g : Graph) → Holds ws g → Lists (list g) out r out′
 
 pub words≢not : (x : ℕ) (q : Refusal) → ListWords x ≡ ListNot q → ⊥
-words≢not x q p = let z : _≡_ {A = ℕ} 0 1 = cc in omega arith
+words≢not x q p = zero-one cc
 
 -- the three ways out of a list, with the head h in hand; what whole words read as is for a graph that they hold its list
 module _ (list : Graph → List ℕ) (Whole : Head → List ℕ → Type 0) (reads : Head → List ℕ → List ℕ) (ws : List ℕ) (h : Head) (q : HeadIs (length ws) (hd ws) h) (out : List ℕ) where
