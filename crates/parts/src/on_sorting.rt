@@ -1,14 +1,34 @@
 // The sort, lent its work area and the stored nodes.
 ghost use mathlib.Core.Path.{_≡_};
-ghost use Prim.Native.Nat.{ℕ, _<_, _≤_};
+ghost use Prim.Native.Nat.{ℕ, _*_, _<_, _≤_};
 ghost use lib.ListN.{length};
 ghost use Rattle.layout.specs.Cut.{sorting};
 ghost use Rattle.layout.specs.View.{View, view};
-ghost use Rattle.layout.specs.Lent.{Lent};
+ghost use Rattle.layout.specs.Lent.{Lent, Loaded, Stored};
 ghost use Rattle.layout.specs.Head.{Fits};
 ghost use Rattle.layout.specs.Both.{LentBoth};
 ghost use Rattle.sorting.specs.Promise.{Sorts};
+use language::Id;
 use layout::Head;
+
+// The id that stands in word i of the work area.
+pub fn work(ws: &[u32], h: Head, i: usize) -> Id
+    requires { ⌜ Fits (length (now ws)) h ⌝ }
+    requires { ⌜ i < 2 * h .n ⌝ }
+    ensures { λ r. ⌜ Loaded (view (h .n) (h .m) (now (ws .entry)) .sorting) i (r .0) ⌝ }
+{
+    let id = layout::work(ws, h, i);
+    Id(id as u32)
+}
+
+// An id into word i of the work area.
+pub fn set_work(ws: &mut [u32], h: Head, i: usize, id: Id)
+    requires { ⌜ Fits (length (now ws)) h ⌝ }
+    requires { ⌜ i < 2 * h .n ⌝ }
+    ensures { λ _. ⌜ Lent sorting (h .n) (h .m) (Stored i (id .0)) (now (ws .entry)) (now (ws .exit)) ⌝ }
+{
+    layout::set_work(ws, h, i, id.0 as usize);
+}
 
 // The first k words of the work area sorted by the keys of the ids that stand there; the stored nodes are lent with it, and stay as they are.
 pub fn sort(ws: &mut [u32], h: Head, k: usize) -> sorting::Sorted

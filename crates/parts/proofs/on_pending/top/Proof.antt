@@ -5,7 +5,7 @@ use Rattle.parts.proofs.on_pending.top.Tie as tie
 
 returns : tie.Need-returns
 unfolding view
-returns c = c .top .ensures
+returns c = rw (c .wrapped .ensures) (c .before .top .ensures)
 
 pub top-spec : {M : Type 1} → statement M
 top-spec =
@@ -21,5 +21,6 @@ top-spec =
     (λ c. search needs)
     (λ c. search needs)
     (λ c. search needs)
+    (λ c κs. search needs)
     (λ c κs. search needs)
     returns)
