@@ -14,7 +14,9 @@ ghost use lib.ListN.{length};
 ghost use Rattle.layout.specs.Head.{HeadOk};
 ghost use Rattle.uniting.specs.Says.{MergeSays, JoinSays, UniteSays};
 use holds::Stepped;
+use language::Id;
 use layout::Head;
+use parts::Found;
 
 // Joined, or one class already, each with the new numbers of the head; or words that no calls could have produced.
 pub enum United {
@@ -24,10 +26,10 @@ pub enum United {
 }
 
 // The class of the root `lose` goes into that of the root `stay`.
-pub fn merge(ws: &mut [u32], h: Head, stay: usize, lose: usize) -> Stepped
+pub fn merge(ws: &mut [u32], h: Head, stay: Id, lose: Id) -> Stepped
     requires { ⌜ HeadOk (length (now ws)) h ⌝ }
-    requires { ⌜ (stay < h .ids) × (lose < h .ids) × (stay ≢ lose) ⌝ }
-    ensures { λ r. ⌜ MergeSays h stay lose (now (ws .entry)) r (now (ws .exit)) ⌝ }
+    requires { ⌜ (stay .0 < h .ids) × (lose .0 < h .ids) × (stay .0 ≢ lose .0) ⌝ }
+    ensures { λ r. ⌜ MergeSays h (stay .0) (lose .0) (now (ws .entry)) r (now (ws .exit)) ⌝ }
 {
     let n = h.n;
     let depth = h.depth;
@@ -65,10 +67,10 @@ pub fn merge(ws: &mut [u32], h: Head, stay: usize, lose: usize) -> Stepped
 }
 
 // Two roots that differ: the first stays unless its parent list is strictly shorter.
-pub fn join_roots(ws: &mut [u32], h: Head, a: usize, b: usize) -> Stepped
+pub fn join_roots(ws: &mut [u32], h: Head, a: Id, b: Id) -> Stepped
     requires { ⌜ HeadOk (length (now ws)) h ⌝ }
-    requires { ⌜ (a < h .ids) × (b < h .ids) × (a ≢ b) ⌝ }
-    ensures { λ r. ⌜ JoinSays h a b (now (ws .entry)) r (now (ws .exit)) ⌝ }
+    requires { ⌜ (a .0 < h .ids) × (b .0 < h .ids) × (a .0 ≢ b .0) ⌝ }
+    ensures { λ r. ⌜ JoinSays h (a .0) (b .0) (now (ws .entry)) r (now (ws .exit)) ⌝ }
 {
     let x = parts::on_uses::len(ws, h, a);
     let y = parts::on_uses::len(ws, h, b);
@@ -80,17 +82,17 @@ pub fn join_roots(ws: &mut [u32], h: Head, a: usize, b: usize) -> Stepped
 }
 
 // The classes of two ids become one. Of one class already, the graph only becomes unclean.
-pub fn unite(ws: &mut [u32], h: Head, i: usize, j: usize) -> United
+pub fn unite(ws: &mut [u32], h: Head, i: Id, j: Id) -> United
     requires { ⌜ HeadOk (length (now ws)) h ⌝ }
-    requires { ⌜ (i < h .ids) × (j < h .ids) ⌝ }
-    ensures { λ r. ⌜ UniteSays h i j (now (ws .entry)) r (now (ws .exit)) ⌝ }
+    requires { ⌜ (i .0 < h .ids) × (j .0 < h .ids) ⌝ }
+    ensures { λ r. ⌜ UniteSays h (i .0) (j .0) (now (ws .entry)) r (now (ws .exit)) ⌝ }
 {
     match parts::on_forest::find_mut(ws, h, i) {
-        unionfind::Found::FoundLost => United::UnitedBroken,
-        unionfind::Found::FoundRoot(x) => match parts::on_forest::find_mut(ws, h, j) {
-            unionfind::Found::FoundLost => United::UnitedBroken,
-            unionfind::Found::FoundRoot(y) => {
-                if x == y {
+        Found::FoundLost => United::UnitedBroken,
+        Found::FoundRoot(x) => match parts::on_forest::find_mut(ws, h, j) {
+            Found::FoundLost => United::UnitedBroken,
+            Found::FoundRoot(y) => {
+                if x.0 == y.0 {
                     let k = Head {
                         n: h.n,
                         m: h.m,
