@@ -11,7 +11,7 @@
 //
 // The head in the words stays: `grow` answers the new numbers. The steps before it answer done, or broken for words that no calls could have produced.
 ghost use mathlib.Core.Path.{_≡_};
-ghost use Prim.Native.Nat.{ℕ, _+_, _<_, _≤_, _^_};
+ghost use Prim.Native.Nat.{ℕ, _+_, _<_, _≤_};
 ghost use lib.ListN.{length};
 ghost use Rattle.lists.specs.Reads.{at};
 ghost use Rattle.lists.specs.Tests.{Says};
@@ -32,6 +32,7 @@ use language::Id;
 use language::Node;
 use language::wide;
 use layout::Head;
+use parts::Found;
 
 // Whether every child has a root; broken are words that no calls could have produced.
 pub enum Rooting {
@@ -72,15 +73,14 @@ pub fn with_roots(ws: &[u32], h: Head, node: Node) -> Rooted
     let mut y = node;
     let mut i: usize = 0;
     while i < n {
-        let k = wide(y.child(i).0);
-        let unionfind::Found::FoundRoot(x) = parts::on_forest::find(ws, h, k) else {
+        let Found::FoundRoot(x) = parts::on_forest::find(ws, h, y.child(i)) else {
             let out = Rooting::RootingBroken;
             return Rooted {
                 out: out,
                 node: node,
             };
         };
-        y = y.with_child(i, Id(x as u32));
+        y = y.with_child(i, x);
         i += 1;
     }
     let out = Rooting::RootingDone;
@@ -95,46 +95,46 @@ fn store(ws: &mut [u32], h: Head, node: Node, key: Node) -> Change
     requires { ⌜ (h .ids < h .n) × (h .places + node .count ≤ h .m) × (node .count ≤ places) × (key .count ≡ node .count) ⌝ }
     ensures { λ r. ⌜ Stores h (node .count) (nodeOf node) (nodeOf key) r (now (ws .entry)) (now (ws .exit)) ⌝ }
 {
-    let id = h.ids;
+    let id = Id(h.ids as u32);
     let place = h.places;
     parts::on_forest::make_set(ws, h);
-    parts::on_rows::store(ws, h, Id(id as u32), place, node, key);
+    parts::on_rows::store(ws, h, id, place, node, key);
     parts::on_members::push(ws, h, id, id)
 }
 
 // The id goes into the table under its key.
-fn enter(ws: &mut [u32], h: Head, id: usize, key: Node) -> Change
+fn enter(ws: &mut [u32], h: Head, id: Id, key: Node) -> Change
     requires { ⌜ HeadOk (length (now ws)) h ⌝ }
-    requires { ⌜ (id < h .n) × (key .count ≤ places) ⌝ }
-    ensures { λ r. ⌜ Enters h id (nodeOf key) r (now (ws .entry)) (now (ws .exit)) ⌝ }
+    requires { ⌜ (id .0 < h .n) × (key .count ≤ places) ⌝ }
+    ensures { λ r. ⌜ Enters h (id .0) (nodeOf key) r (now (ws .entry)) (now (ws .exit)) ⌝ }
 {
     let n = h.n;
     let bucket = table::bucket(key, n);
-    parts::on_table::enter(ws, h, bucket, Id(id as u32))
+    parts::on_table::enter(ws, h, bucket, id)
 }
 
 // The id owns a child place, which goes to the end of the parent list of a root.
-fn link_one(ws: &mut [u32], h: Head, place: usize, id: usize, list: usize) -> Change
+fn link_one(ws: &mut [u32], h: Head, place: usize, id: Id, list: Id) -> Change
     requires { ⌜ HeadOk (length (now ws)) h ⌝ }
-    requires { ⌜ (place < h .m) × (id < 2 ^ 32) × (list < h .ids) ⌝ }
-    ensures { λ r. ⌜ Links h place id list r (now (ws .entry)) (now (ws .exit)) ⌝ }
+    requires { ⌜ (place < h .m) × (list .0 < h .ids) ⌝ }
+    ensures { λ r. ⌜ Links h place (id .0) (list .0) r (now (ws .entry)) (now (ws .exit)) ⌝ }
 {
-    layout::set_owner(ws, h, place, id);
+    parts::on_owners::set_owner(ws, h, place, id);
     parts::on_uses::push(ws, h, list, place)
 }
 
 // The id owns the places of its children, from `base` on, and stands in the parent list of each child's root, once for each place.
-fn link_all(ws: &mut [u32], h: Head, base: usize, id: usize, key: Node) -> Change
+fn link_all(ws: &mut [u32], h: Head, base: usize, id: Id, key: Node) -> Change
     requires { ⌜ HeadOk (length (now ws)) h ⌝ }
-    requires { ⌜ (key .count ≤ places) × (base + key .count ≤ h .places) × (id < 2 ^ 32) ⌝ }
+    requires { ⌜ (key .count ≤ places) × (base + key .count ≤ h .places) ⌝ }
     requires { ⌜ ((i : ℕ) → i < key .count → at (nodeOf key .kids) i < h .ids) ⌝ }
-    ensures { λ r. ⌜ LinksAll h base id (nodeOf key .kids) r (now (ws .entry)) (now (ws .exit)) ⌝ }
+    ensures { λ r. ⌜ LinksAll h base (id .0) (nodeOf key .kids) r (now (ws .entry)) (now (ws .exit)) ⌝ }
 {
     let n = wide(key.count);
     let mut j: usize = 0;
     while j < n {
         let place = base + j;
-        let list = wide(key.child(j).0);
+        let list = key.child(j);
         let Change::ChangeDone = link_one(ws, h, place, id, list) else {
             return Change::ChangeBroken;
         };
@@ -144,10 +144,9 @@ fn link_all(ws: &mut [u32], h: Head, base: usize, id: usize, key: Node) -> Chang
 }
 
 // The id goes on the pending list.
-fn push(ws: &mut [u32], h: Head, id: usize) -> Change
+fn push(ws: &mut [u32], h: Head, id: Id) -> Change
     requires { ⌜ HeadOk (length (now ws)) h ⌝ }
-    requires { ⌜ id < 2 ^ 32 ⌝ }
-    ensures { λ r. ⌜ PushesId h id r (now (ws .entry)) (now (ws .exit)) ⌝ }
+    ensures { λ r. ⌜ PushesId h (id .0) r (now (ws .entry)) (now (ws .exit)) ⌝ }
 {
     let depth = h.depth;
     if 2 * h.n <= depth {
@@ -158,11 +157,11 @@ fn push(ws: &mut [u32], h: Head, id: usize) -> Change
 }
 
 // The id is linked to the parent list of each child's root, and goes on the pending list.
-fn connect(ws: &mut [u32], h: Head, base: usize, id: usize, key: Node) -> Change
+fn connect(ws: &mut [u32], h: Head, base: usize, id: Id, key: Node) -> Change
     requires { ⌜ HeadOk (length (now ws)) h ⌝ }
-    requires { ⌜ (key .count ≤ places) × (base + key .count ≤ h .places) × (id < 2 ^ 32) ⌝ }
+    requires { ⌜ (key .count ≤ places) × (base + key .count ≤ h .places) ⌝ }
     requires { ⌜ ((i : ℕ) → i < key .count → at (nodeOf key .kids) i < h .ids) ⌝ }
-    ensures { λ r. ⌜ Connects h base id (nodeOf key .kids) r (now (ws .entry)) (now (ws .exit)) ⌝ }
+    ensures { λ r. ⌜ Connects h base (id .0) (nodeOf key .kids) r (now (ws .entry)) (now (ws .exit)) ⌝ }
 {
     let Change::ChangeDone = link_all(ws, h, base, id, key) else {
         return Change::ChangeBroken;
@@ -177,7 +176,7 @@ pub fn grow(ws: &mut [u32], h: Head, node: Node, key: Node) -> Stepped
     requires { ⌜ ((i : ℕ) → i < key .count → at (nodeOf key .kids) i < h .ids) ⌝ }
     ensures { λ r. ⌜ Grows h (nodeOf node) (nodeOf key) r (now (ws .entry)) (now (ws .exit)) ⌝ }
 {
-    let id = h.ids;
+    let id = Id(h.ids as u32);
     let base = h.places;
     let Change::ChangeDone = store(ws, h, node, key) else {
         return Stepped::SteppedBroken;
@@ -185,7 +184,7 @@ pub fn grow(ws: &mut [u32], h: Head, node: Node, key: Node) -> Stepped
     let k = Head {
         n: h.n,
         m: h.m,
-        ids: id + 1,
+        ids: h.ids + 1,
         places: base + wide(node.count),
         depth: h.depth,
         classes: h.classes + 1,

@@ -6,9 +6,6 @@ use Rattle.growing.proofs.enter.Tie as tie
 bucket-requires : tie.Need-bucket-requires
 bucket-requires c κs = search needs
 
-cast-t9 : tie.Need-cast-t9
-cast-t9 c = search needs
-
 enter-requires : tie.Need-enter-requires
 enter-requires c κs = search needs
 
@@ -19,4 +16,4 @@ returns : tie.Need-returns
 returns c = enters _ _ _ _ _ _ _ (c .before .before .before .before .bucket .ensures) (c .before .before .enter .ensures)
 
 pub enter-spec : {M : Type 1} → statement M
-enter-spec = tie.close (tie.spec bucket-requires cast-t9 enter-requires same-length returns)
+enter-spec = tie.close (tie.spec bucket-requires enter-requires same-length returns)

@@ -7,6 +7,9 @@ use borrow.Author.Needs.{needs}
 use Rattle.growing.proofs.grow.Statement.{statement}
 use Rattle.growing.proofs.grow.Tie as tie
 
+cast-t8 : tie.Need-cast-t8
+cast-t8 c = search needs
+
 store-requires : tie.Need-store-requires
 store-requires c κs = search needs
 
@@ -22,17 +25,17 @@ same-length c = search needs
 returns : tie.Need-returns
 returns c = grown-broken (goes-stored _ _ _ _ refl (c .before .before .before .before .store .ensures)) (c .enum-told2 .given .1)
 
-add-t11 : tie.Need-add-t11
-add-t11 c = search needs
+add-t12 : tie.Need-add-t12
+add-t12 c = search needs
 
 wide-requires : tie.Need-wide-requires
 wide-requires c κs = search needs
 
-add-t13 : tie.Need-add-t13
-add-t13 c = search needs
-
 add-t14 : tie.Need-add-t14
 add-t14 c = search needs
+
+add-t15 : tie.Need-add-t15
+add-t15 c = search needs
 
 enter-requires : tie.Need-enter-requires
 enter-requires c κs = search needs
@@ -49,16 +52,16 @@ same-length-2 c = search needs
 returns-2 : tie.Need-returns-2
 returns-2 c =
     let w = c .before .before .before .before .before .before .before .wide .ensures .0 in
-    let g1 = goes-stored _ _ _ _ w (c .before .before .before .before .before .before .before .before .before .before .before .before .store .ensures) in
+    let g1 = goes-stored _ _ _ _ w (c .before .before .before .before .before .before .before .before .before .before .before .before .before .store .ensures) in
     let g2 = goes-entered _ _ _ _ g1 (c .before .before .before .before .enter .ensures) in
     grown-broken g2 (c .enum-told4 .given .1)
 
 connect-requires : tie.Need-connect-requires
 connect-requires c κs =
-    let s = c .before .before .before .before .before .before .before .before .before .before .before .before .before .before .before .before in
+    let s = c .before .before .before .before .before .before .before .before .before .before .before .before .before .before .before .before .before .before in
     let w = c .before .before .before .before .before .before .before .before .wide .ensures .0 in
-    let e = c .before .before .before .before .before .enter .ensures .inside .size ∙ c .before .before .before .before .before .before .before .before .before .before .before .before .before .store .ensures .inside .size in
-    (rw e (omega (arith, s .pre .0)), ((omega arith, omega arith, omega (arith, s .pre .0)), λ i l. omega (arith, s .pre .1 .1 i l)))
+    let e = c .before .before .before .before .before .enter .ensures .inside .size ∙ c .before .before .before .before .before .before .before .before .before .before .before .before .before .before .store .ensures .inside .size in
+    (rw e (omega (arith, s .pre .0)), ((omega arith, omega arith), λ i l. omega (arith, s .pre .1 .1 i l)))
 
 enum-told-5 : tie.Need-enum-told-5
 enum-told-5 c = search needs
@@ -71,29 +74,29 @@ same-length-3 c = search needs
 
 returns-3 : tie.Need-returns-3
 returns-3 c =
-    let s = c .before .before .before .before .before .before .before .before .before .before .before .before .before .before .before .before .before .before .before .before .before in
+    let s = c .before .before .before .before .before .before .before .before .before .before .before .before .before .before .before .before .before .before .before .before .before .before .before in
     let y = s .args .key in
     let p = s .pre .1 .0 in
     let w = c .before .before .before .before .before .before .before .before .before .before .before .before .before .wide .ensures .0 in
-    let g1 = goes-stored _ _ _ _ w (c .before .before .before .before .before .before .before .before .before .before .before .before .before .before .before .before .before .before .store .ensures) in
+    let g1 = goes-stored _ _ _ _ w (c .before .before .before .before .before .before .before .before .before .before .before .before .before .before .before .before .before .before .before .store .ensures) in
     let g2 = goes-entered _ _ _ _ g1 (c .before .before .before .before .before .before .before .before .before .before .enter .ensures) in
     let e = count-kids y (sized y (s .good .1 .1 .1 .0)) (omega arith) ∙ p .3 ∙ sym w in
     let g3 = goes-connected _ _ _ _ g2 e (c .before .before .before .before .connect .ensures) in
     grown-broken g3 (c .enum-told6 .given .1)
 
-add-t11-2 : tie.Need-add-t11-2
-add-t11-2 c = search needs
+add-t12-2 : tie.Need-add-t12-2
+add-t12-2 c = omega (arith, c .before .before .before .before .before .before .before .before .before .before .before .before .before .before .before .before .before .before .before .before .before .before .before .before .pre .0)
 
 same-length-4 : tie.Need-same-length-4
 same-length-4 c = search needs
 
 returns-4 : tie.Need-returns-4
 returns-4 c =
-    let s = c .before .before .before .before .before .before .before .before .before .before .before .before .before .before .before .before .before .before .before .before .before .before in
+    let s = c .before .before .before .before .before .before .before .before .before .before .before .before .before .before .before .before .before .before .before .before .before .before .before .before in
     let y = s .args .key in
     let p = s .pre .1 .0 in
     let w = c .before .before .before .before .before .before .before .before .before .before .before .before .before .before .wide .ensures .0 in
-    let g1 = goes-stored _ _ _ _ w (c .before .before .before .before .before .before .before .before .before .before .before .before .before .before .before .before .before .before .before .store .ensures) in
+    let g1 = goes-stored _ _ _ _ w (c .before .before .before .before .before .before .before .before .before .before .before .before .before .before .before .before .before .before .before .before .store .ensures) in
     let g2 = goes-entered _ _ _ _ g1 (c .before .before .before .before .before .before .before .before .before .before .before .enter .ensures) in
     let e = count-kids y (sized y (s .good .1 .1 .1 .0)) (omega arith) ∙ p .3 ∙ sym w in
     let g3 = goes-connected _ _ _ _ g2 e (c .before .before .before .before .before .connect .ensures) in
@@ -104,15 +107,16 @@ pub grow-spec : {M : Type 1} → statement M
 grow-spec =
     tie.close
     (tie.spec
+    cast-t8
     store-requires
     enum-told
     enum-told-2
     same-length
     returns
-    add-t11
+    add-t12
     wide-requires
-    add-t13
     add-t14
+    add-t15
     enter-requires
     enum-told-3
     enum-told-4
@@ -123,6 +127,6 @@ grow-spec =
     enum-told-6
     same-length-3
     returns-3
-    add-t11-2
+    add-t12-2
     same-length-4
     returns-4)

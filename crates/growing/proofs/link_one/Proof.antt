@@ -15,7 +15,7 @@ same-length c = search needs
 returns : tie.Need-returns
 returns c =
     let s = c .before .before .before .before .before .before .before .before .before in
-    links _ _ _ _ _ _ _ _ (s .pre .0) (s .pre .1 .2) (c .before .before .before .before .before .before .set-owner .ensures) (c .before .before .push .ensures)
+    links _ _ _ _ _ _ _ _ (s .pre .0) (s .pre .1 .1) (c .before .before .before .before .before .before .set-owner .ensures) (c .before .before .push .ensures)
 
 pub link-one-spec : {M : Type 1} → statement M
 link-one-spec = tie.close (tie.spec set-owner-requires push-requires same-length returns)

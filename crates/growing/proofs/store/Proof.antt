@@ -9,8 +9,8 @@ use Rattle.growing.proofs.store.Tie as tie
 make-set-requires : tie.Need-make-set-requires
 make-set-requires c κs = search needs
 
-cast-t12 : tie.Need-cast-t12
-cast-t12 c = search needs
+cast-t7 : tie.Need-cast-t7
+cast-t7 c = search needs
 
 store-requires : tie.Need-store-requires
 store-requires c κs = search needs
@@ -23,7 +23,7 @@ same-length c = search needs
 
 returns : tie.Need-returns
 returns c =
-    let s = c .before .before .before .before .before .before .before .before .before .before .before .before .before in
+    let s = c .before .before .before .before .before .before .before .before .before .before .before .before .before .before in
     let x = s .args .node in
     let p = s .pre .1 in
     stores _ _ _ _ _ _ _ _ _ (p .0) (p .1) (sym (count-kids x (sized x (s .good .1 .1 .0)) (p .2)))
@@ -32,4 +32,4 @@ returns c =
 pub store-spec : {M : Type 1} → statement M
 store-spec =
     tie.close
-    (tie.spec make-set-requires cast-t12 store-requires push-requires same-length returns)
+    (tie.spec cast-t7 make-set-requires store-requires push-requires same-length returns)

@@ -1,4 +1,5 @@
-use mathlib.Core.Path.{_∙_, _≡_, refl}
+use Rattle.parts.specs.Bare.{bare-found}
+use mathlib.Core.Path.{_≡_, ap, refl}
 use Prim.Native.Nat.{_-_, _≤_}
 use native.Mathlib.Omega.{arith}
 use borrow.Author.Needs.{needs}
@@ -26,18 +27,15 @@ loop-holds c = (omega arith, refl, partway-none _ _)
 child-requires : tie.Need-child-requires Inv-loop μ-loop
 child-requires c κs = search needs
 
-wide-requires-2 : tie.Need-wide-requires-2 Inv-loop μ-loop
-wide-requires-2 c κs = search needs
-
 find-requires : tie.Need-find-requires Inv-loop μ-loop
 find-requires c κs =
-    let s = c .before .before .before .before .before .before in
-    let l = c .before .before .before .loop in
+    let s = c .before .before .before .before .before in
+    let l = c .before .before .loop in
     let x = s .args .node in
     let f = count-kids x (sized x (s .good .1 .1 .0)) (s .pre .1 .0) in
     let b = s .pre .1 .1 (l .i) (omega arith) in
     let e = l .inv .2 .rest (l .i) (omega arith) in
-    (ok-fits (s .pre .0), (omega (arith, c .wide2 .ensures .0, c .before .child .ensures), omega arith))
+    (ok-fits (s .pre .0), (omega (arith, c .child .ensures), omega arith))
 
 enum-known-x : tie.Need-enum-known-x Inv-loop μ-loop
 enum-known-x c = search needs
@@ -46,10 +44,7 @@ enum-told : tie.Need-enum-told Inv-loop μ-loop
 enum-told c = search needs
 
 returns : tie.Need-returns Inv-loop μ-loop
-returns c = roots-lost _ _ _ _ _ (c .before .before .find .ensures) (c .enum-told .given .1)
-
-cast-t14 : tie.Need-cast-t14 Inv-loop μ-loop
-cast-t14 c = omega (arith, c .before .before .before .find .ensures .inside _ (c .before .x .given .1))
+returns c = roots-lost _ _ _ _ _ (c .before .before .find .ensures) (ap bare-found (c .enum-told .given .1))
 
 with-child-requires : tie.Need-with-child-requires Inv-loop μ-loop
 with-child-requires c κs = search needs
@@ -62,16 +57,16 @@ loop-less c = search needs
 
 loop-again : tie.Need-loop-again Inv-loop μ-loop
 loop-again c =
-    let l = c .before .before .before .before .before .before .before .before in
+    let l = c .before .before .before .before .before .before .before in
     let s = l .before .before .before in
-    let t = c .before .before .before .before .before .before .before .loop-test .taken in
+    let t = c .before .before .before .before .before .before .loop-test .taken in
     let w = l .before .wide .ensures .0 in
     let x = s .args .node in
     let f = count-kids x (sized x (s .good .1 .1 .0)) (s .pre .1 .0) in (
       omega arith,
       omega (arith, c .with-child .ensures .0),
-      roots-more _ _ _ _ _ _ _ _ _ (l .loop .inv .2) (omega arith) (c .before .before .before .before .before .wide2 .ensures .0 ∙ c .before .before .before .before .before .before .child .ensures)
-          (c .before .before .before .before .find .ensures) (c .before .before .x .given .1) (c .with-child .ensures .1),
+      roots-more _ _ _ _ _ _ _ _ _ (l .loop .inv .2) (omega arith) (c .before .before .before .before .before .child .ensures)
+          (c .before .before .before .before .find .ensures) (ap bare-found (c .before .before .x .given .1)) (c .with-child .ensures .1),
     )
 
 returns-2 : tie.Need-returns-2 Inv-loop μ-loop
@@ -90,12 +85,10 @@ with-roots-spec =
     wide-requires
     loop-holds
     child-requires
-    wide-requires-2
     find-requires
     enum-known-x
     enum-told
     returns
-    cast-t14
     with-child-requires
     add-i
     loop-less
