@@ -14,6 +14,7 @@ use super::Refusal;
 use language::Id;
 use language::Node;
 use layout::Head;
+use parts::Found;
 
 // What these calls refuse before they look at the graph.
 fn enter(ws: &[u32], node: Node) -> Gate
@@ -44,9 +45,9 @@ fn lookup_open(ws: &[u32], h: Head, node: Node) -> LookupAnswer
     match out {
         adding::Seen::SeenBroken => LookupAnswer::LookupNot(Refusal::BrokenWords),
         adding::Seen::SeenNone => LookupAnswer::LookupNone,
-        adding::Seen::SeenAt(x) => match parts::on_forest::find(ws, h, x.0 as usize) {
-            unionfind::Found::FoundLost => LookupAnswer::LookupNot(Refusal::BrokenWords),
-            unionfind::Found::FoundRoot(y) => LookupAnswer::LookupFound(Id(y as u32)),
+        adding::Seen::SeenAt(x) => match parts::on_forest::find(ws, h, x) {
+            Found::FoundLost => LookupAnswer::LookupNot(Refusal::BrokenWords),
+            Found::FoundRoot(y) => LookupAnswer::LookupFound(y),
         },
     }
 }
@@ -96,9 +97,9 @@ fn add_open(ws: &mut [u32], h: Head, node: Node) -> AddAnswer
     match adding::give(ws, h, node) {
         adding::Gave::GaveBroken => AddAnswer::AddNot(Refusal::BrokenWords),
         adding::Gave::GaveFull => AddAnswer::AddNot(Refusal::NoRoom),
-        adding::Gave::GaveOld(x) => match parts::on_forest::find(ws, h, x.0 as usize) {
-            unionfind::Found::FoundLost => AddAnswer::AddNot(Refusal::BrokenWords),
-            unionfind::Found::FoundRoot(y) => AddAnswer::AddId(Id(y as u32)),
+        adding::Gave::GaveOld(x) => match parts::on_forest::find(ws, h, x) {
+            Found::FoundLost => AddAnswer::AddNot(Refusal::BrokenWords),
+            Found::FoundRoot(y) => AddAnswer::AddId(y),
         },
         adding::Gave::GaveNew(k) => {
             layout::write_head(ws, k);

@@ -68,12 +68,12 @@ pub fn id_to_node(ws: &[u32], id: Id) -> NodeAnswer
 }
 
 // How many words the node of an id takes.
-fn row_words(ws: &[u32], h: Head, i: usize) -> ListAnswer
+fn row_words(ws: &[u32], h: Head, id: Id) -> ListAnswer
     requires { ⌜ HeadIs (length (now ws)) (hd (now ws)) h ⌝ }
-    requires { ⌜ i < h .ids ⌝ }
-    ensures { λ r. ⌜ RowWords (view (h .n) (h .m) (now (ws .entry)) .rows) (h .n) (h .m) i r ⌝ }
+    requires { ⌜ id .0 < h .ids ⌝ }
+    ensures { λ r. ⌜ RowWords (view (h .n) (h .m) (now (ws .entry)) .rows) (h .n) (h .m) (id .0) r ⌝ }
 {
-    let f = parts::on_rows::given(ws, h, Id(i as u32));
+    let f = parts::on_rows::given(ws, h, id);
     let found = f.out;
     match found {
         rows::Fetch::FetchBroken => ListAnswer::ListNot(Refusal::BrokenWords),
@@ -90,7 +90,7 @@ fn measure(ws: &[u32], h: Head) -> ListAnswer
     let mut total: usize = 0;
     let mut i: usize = 0;
     while i < ids {
-        match row_words(ws, h, i) {
+        match row_words(ws, h, Id(i as u32)) {
             ListAnswer::ListNot(why) => {
                 return ListAnswer::ListNot(why);
             }

@@ -10,15 +10,16 @@ use super::FlagAnswer;
 use super::Refusal;
 use language::Id;
 use layout::Head;
+use parts::Found;
 
-fn find_open(ws: &[u32], h: Head, i: usize) -> FindAnswer
+fn find_open(ws: &[u32], h: Head, id: Id) -> FindAnswer
     requires { ⌜ HeadIs (length (now ws)) (hd (now ws)) h ⌝ }
-    requires { ⌜ i < h .ids ⌝ }
-    ensures { λ r. ⌜ FindOpen (now (ws .entry)) i r ⌝ }
+    requires { ⌜ id .0 < h .ids ⌝ }
+    ensures { λ r. ⌜ FindOpen (now (ws .entry)) (id .0) r ⌝ }
 {
-    match parts::on_forest::find(ws, h, i) {
-        unionfind::Found::FoundLost => FindAnswer::FindNot(Refusal::BrokenWords),
-        unionfind::Found::FoundRoot(x) => FindAnswer::FindRoot(Id(x as u32)),
+    match parts::on_forest::find(ws, h, id) {
+        Found::FoundLost => FindAnswer::FindNot(Refusal::BrokenWords),
+        Found::FoundRoot(x) => FindAnswer::FindRoot(x),
     }
 }
 
@@ -33,7 +34,7 @@ pub fn find(ws: &[u32], id: Id) -> FindAnswer
             if h.ids <= i {
                 return FindAnswer::FindNot(Refusal::UnknownId);
             }
-            find_open(ws, h, i)
+            find_open(ws, h, id)
         }
     }
 }

@@ -10,12 +10,12 @@ use language::Id;
 use layout::Head;
 
 // Both ids known.
-fn union_open(ws: &mut [u32], h: Head, i: usize, j: usize) -> UnionAnswer
+fn union_open(ws: &mut [u32], h: Head, id1: Id, id2: Id) -> UnionAnswer
     requires { ⌜ HeadIs (length (now ws)) (hd (now ws)) h ⌝ }
-    requires { ⌜ (i < h .ids) × (j < h .ids) ⌝ }
-    ensures { λ r. ⌜ UnionOpen (now (ws .entry)) i j r (now (ws .exit)) ⌝ }
+    requires { ⌜ (id1 .0 < h .ids) × (id2 .0 < h .ids) ⌝ }
+    ensures { λ r. ⌜ UnionOpen (now (ws .entry)) (id1 .0) (id2 .0) r (now (ws .exit)) ⌝ }
 {
-    match uniting::unite(ws, h, i, j) {
+    match uniting::unite(ws, h, id1, id2) {
         uniting::United::UnitedBroken => UnionAnswer::UnionNot(Refusal::BrokenWords),
         uniting::United::UnitedYes(k) => {
             layout::write_head(ws, k);
@@ -43,7 +43,7 @@ pub fn union(ws: &mut [u32], id1: Id, id2: Id) -> UnionAnswer
             if h.ids <= j {
                 return UnionAnswer::UnionNot(Refusal::UnknownId);
             }
-            union_open(ws, h, i, j)
+            union_open(ws, h, id1, id2)
         }
     }
 }

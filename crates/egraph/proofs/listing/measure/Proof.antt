@@ -20,6 +20,9 @@ abbrev μ-loop : tie.MeasureT-loop
 loop-holds : tie.Need-loop-holds Inv-loop μ-loop
 loop-holds c = let a = c .before .args in (omega arith, long-none (view (a .h .n) (a .h .m) (a .ws .now) .rows) (a .h .n) (a .h .m), omega arith, sane-none (view (a .h .n) (a .h .m) (a .ws .now) .rows) (a .h .n) (a .h .m))
 
+cast-t10 : tie.Need-cast-t10 Inv-loop μ-loop
+cast-t10 c = omega (arith, c .before .before .before .pre .ok)
+
 row-words-requires : tie.Need-row-words-requires Inv-loop μ-loop
 row-words-requires c κs = (c .before .before .before .pre, omega arith)
 
@@ -42,6 +45,7 @@ measure-spec =
     Inv-loop
     μ-loop
     loop-holds
+    cast-t10
     row-words-requires
     (λ c. search needs)
     returns

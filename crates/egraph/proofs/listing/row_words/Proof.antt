@@ -13,7 +13,6 @@ pub row-words-spec : {M : Type 1} → statement M
 row-words-spec =
     tie.close
     (tie.spec
-    (λ c. search needs)
     (λ c κs. search needs)
     (λ c. search needs)
     (λ c. search needs)
