@@ -57,6 +57,10 @@ pub record Walk (ms : List ℕ) (n r left cur : ℕ) (P : List ℕ → Type 0) :
   pub whole : class-ids ms n r ≡ back ms n left cur ++ done
   pub kept : P done
 
+-- the same said by how the walk began, with k ids of which start is the last: it is on its way over whichever list reads so
+abbrev pub WalkFrom : List ℕ → ℕ → ℕ → ℕ → ℕ → ℕ → (List ℕ → Type 0) → Type 0
+WalkFrom ms n k start left cur P = (r : ℕ) → k ≡ len-of ms n r → start ≡ at ms r → Walk ms n r left cur P
+
 module _ (ms : List ℕ) (n r : ℕ) where
   pub walk-start : (P : List ℕ → Type 0) (k cur : ℕ) → k ≡ len-of ms n r → cur ≡ at ms r → P [] → Walk ms n r k cur P
   walk-start P k cur ek ec p = record { done = []; whole = rw (ek, ec) (sym (append-nil (class-ids ms n r))); kept = p }

@@ -31,7 +31,7 @@ pub fn count_nodes(ws: &[u32], h: Head) -> Total
     let mut total: usize = 0;
     let mut i: usize = 0;
     while i < ids {
-        let k = parts::on_members::len(ws, h, i);
+        let k = parts::on_members::len(ws, h, Id(i as u32));
         // each id stands in one list at most
         if ids - total < k {
             return Total::TotalBroken;
@@ -43,14 +43,14 @@ pub fn count_nodes(ws: &[u32], h: Head) -> Total
 }
 
 // Whether a walk may meet this: an id, with a row that is within bounds.
-fn fine_id(ws: &[u32], h: Head, id: usize) -> bool
+fn fine_id(ws: &[u32], h: Head, id: Id) -> bool
     requires { ⌜ HeadOk (length (now ws)) h ⌝ }
-    ensures { λ r. ⌜ Says r (FineId (view (h .n) (h .m) (now (ws .entry)) .rows) (h .n) (h .m) (h .ids) id) ⌝ }
+    ensures { λ r. ⌜ Says r (FineId (view (h .n) (h .m) (now (ws .entry)) .rows) (h .n) (h .m) (h .ids) (id .0)) ⌝ }
 {
-    if h.ids <= id {
+    if h.ids <= id.0 as usize {
         return false;
     }
-    let f = parts::on_rows::key(ws, h, Id(id as u32));
+    let f = parts::on_rows::key(ws, h, id);
     let found = f.out;
     match found {
         rows::Fetch::FetchBroken => false,
@@ -59,10 +59,10 @@ fn fine_id(ws: &[u32], h: Head, id: usize) -> bool
 }
 
 // Whether the walk over the list of an id is unbroken.
-fn check_class(ws: &[u32], h: Head, r: usize) -> bool
+fn check_class(ws: &[u32], h: Head, r: Id) -> bool
     requires { ⌜ HeadOk (length (now ws)) h ⌝ }
-    requires { ⌜ r < h .ids ⌝ }
-    ensures { λ b. ⌜ Says b (FineIn h (now (ws .entry)) r) ⌝ }
+    requires { ⌜ r .0 < h .ids ⌝ }
+    ensures { λ b. ⌜ Says b (FineIn h (now (ws .entry)) (r .0)) ⌝ }
 {
     let mut left = parts::on_members::len(ws, h, r);
     let mut id = parts::on_members::last(ws, h, r);
@@ -87,7 +87,7 @@ pub fn check(ws: &[u32], h: Head) -> bool
     let ids = h.ids;
     let mut i: usize = 0;
     while i < ids {
-        if !check_class(ws, h, i) {
+        if !check_class(ws, h, Id(i as u32)) {
             return false;
         }
         i += 1;

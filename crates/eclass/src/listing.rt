@@ -13,21 +13,21 @@ use language::Id;
 use layout::Head;
 
 // How many words the key of an id takes.
-fn id_words(ws: &[u32], h: Head, id: usize) -> usize
+fn id_words(ws: &[u32], h: Head, id: Id) -> usize
     requires { ⌜ HeadOk (length (now ws)) h ⌝ }
-    requires { ⌜ id < h .n ⌝ }
-    ensures { λ r. ⌜ IdWords (view (h .n) (h .m) (now (ws .entry)) .rows) (h .n) (h .m) id r ⌝ }
+    requires { ⌜ id .0 < h .n ⌝ }
+    ensures { λ r. ⌜ IdWords (view (h .n) (h .m) (now (ws .entry)) .rows) (h .n) (h .m) (id .0) r ⌝ }
 {
-    let f = parts::on_rows::key(ws, h, Id(id as u32));
+    let f = parts::on_rows::key(ws, h, id);
     spelling::node_length(f.node)
 }
 
 // How many words the nodes of a class take.
-fn class_words(ws: &[u32], h: Head, r: usize) -> usize
+fn class_words(ws: &[u32], h: Head, r: Id) -> usize
     requires { ⌜ HeadOk (length (now ws)) h ⌝ }
-    requires { ⌜ r < h .ids ⌝ }
-    requires { ⌜ FineIn h (now ws) r ⌝ }
-    ensures { λ w. ⌜ ClassLongIn h (now (ws .entry)) r w × (w ≤ 11 * 2 ^ 32) ⌝ }
+    requires { ⌜ r .0 < h .ids ⌝ }
+    requires { ⌜ FineIn h (now ws) (r .0) ⌝ }
+    ensures { λ w. ⌜ ClassLongIn h (now (ws .entry)) (r .0) w × (w ≤ 11 * 2 ^ 32) ⌝ }
 {
     let mut left = parts::on_members::len(ws, h, r);
     let mut id = parts::on_members::last(ws, h, r);
@@ -41,11 +41,11 @@ fn class_words(ws: &[u32], h: Head, r: usize) -> usize
 }
 
 // How many words a class takes in the list; an id that is no root takes none.
-fn piece_words(ws: &[u32], h: Head, r: usize) -> usize
+fn piece_words(ws: &[u32], h: Head, r: Id) -> usize
     requires { ⌜ HeadOk (length (now ws)) h ⌝ }
-    requires { ⌜ r < h .ids ⌝ }
-    requires { ⌜ FineIn h (now ws) r ⌝ }
-    ensures { λ k. ⌜ (k ≡ length (class-piece-in h (now (ws .entry)) r)) × (k ≤ 2 + 11 * 2 ^ 32) ⌝ }
+    requires { ⌜ r .0 < h .ids ⌝ }
+    requires { ⌜ FineIn h (now ws) (r .0) ⌝ }
+    ensures { λ k. ⌜ (k ≡ length (class-piece-in h (now (ws .entry)) (r .0))) × (k ≤ 2 + 11 * 2 ^ 32) ⌝ }
 {
     let k = parts::on_members::len(ws, h, r);
     if k == 0 {
@@ -64,20 +64,20 @@ pub fn measure_classes(ws: &[u32], h: Head) -> usize
     let mut total: usize = 0;
     let mut i: usize = 0;
     while i < ids {
-        total += piece_words(ws, h, i);
+        total += piece_words(ws, h, Id(i as u32));
         i += 1;
     }
     total
 }
 
 // The words of the key of an id, written so that they end before a place; the answer is where they start.
-fn put_before(ws: &[u32], h: Head, out: &mut [u32], end: usize, id: usize) -> usize
+fn put_before(ws: &[u32], h: Head, out: &mut [u32], end: usize, id: Id) -> usize
     requires { ⌜ HeadOk (length (now ws)) h ⌝ }
-    requires { ⌜ id < h .n ⌝ }
-    requires { ⌜ (length (words (key-read (view (h .n) (h .m) (now ws) .rows) (h .n) (h .m) id)) ≤ end) × (end ≤ length (now out)) ⌝ }
-    ensures { λ e. ⌜ Before (view (h .n) (h .m) (now (ws .entry)) .rows) (h .n) (h .m) id end (now (out .entry)) e (now (out .exit)) ⌝ }
+    requires { ⌜ id .0 < h .n ⌝ }
+    requires { ⌜ (length (words (key-read (view (h .n) (h .m) (now ws) .rows) (h .n) (h .m) (id .0))) ≤ end) × (end ≤ length (now out)) ⌝ }
+    ensures { λ e. ⌜ Before (view (h .n) (h .m) (now (ws .entry)) .rows) (h .n) (h .m) (id .0) end (now (out .entry)) e (now (out .exit)) ⌝ }
 {
-    let f = parts::on_rows::key(ws, h, Id(id as u32));
+    let f = parts::on_rows::key(ws, h, id);
     let k = spelling::node_length(f.node);
     let start = end - k;
     spelling::put_node(out, start, f.node);
@@ -85,13 +85,13 @@ fn put_before(ws: &[u32], h: Head, out: &mut [u32], end: usize, id: usize) -> us
 }
 
 // The nodes of a class, which take w words, from a place on. The walk goes back from the last, so they are written from their end to their start.
-fn put_members(ws: &[u32], h: Head, out: &mut [u32], place: usize, r: usize, w: usize)
+fn put_members(ws: &[u32], h: Head, out: &mut [u32], place: usize, r: Id, w: usize)
     requires { ⌜ HeadOk (length (now ws)) h ⌝ }
-    requires { ⌜ r < h .ids ⌝ }
-    requires { ⌜ FineIn h (now ws) r ⌝ }
-    requires { ⌜ ClassLongIn h (now ws) r w ⌝ }
+    requires { ⌜ r .0 < h .ids ⌝ }
+    requires { ⌜ FineIn h (now ws) (r .0) ⌝ }
+    requires { ⌜ ClassLongIn h (now ws) (r .0) w ⌝ }
     requires { ⌜ place + w ≤ length (now out) ⌝ }
-    ensures { λ _. ⌜ Placed (view (h .n) (h .m) (now (ws .entry)) .members) (view (h .n) (h .m) (now (ws .entry)) .rows) (h .n) (h .m) r (now (out .entry)) place (now (out .exit)) ⌝ }
+    ensures { λ _. ⌜ Placed (view (h .n) (h .m) (now (ws .entry)) .members) (view (h .n) (h .m) (now (ws .entry)) .rows) (h .n) (h .m) (r .0) (now (out .entry)) place (now (out .exit)) ⌝ }
 {
     let mut left = parts::on_members::len(ws, h, r);
     let mut id = parts::on_members::last(ws, h, r);
@@ -104,12 +104,12 @@ fn put_members(ws: &[u32], h: Head, out: &mut [u32], place: usize, r: usize, w: 
 }
 
 // A class from a place on, if the id is a root; the place behind it.
-fn put_class(ws: &[u32], h: Head, out: &mut [u32], place: usize, r: usize) -> usize
+fn put_class(ws: &[u32], h: Head, out: &mut [u32], place: usize, r: Id) -> usize
     requires { ⌜ HeadOk (length (now ws)) h ⌝ }
-    requires { ⌜ r < h .ids ⌝ }
-    requires { ⌜ FineIn h (now ws) r ⌝ }
-    requires { ⌜ place + length (class-piece-in h (now ws) r) ≤ length (now out) ⌝ }
-    ensures { λ p. ⌜ Wrote (now (out .entry)) place (class-piece-in h (now (ws .entry)) r) p (now (out .exit)) ⌝ }
+    requires { ⌜ r .0 < h .ids ⌝ }
+    requires { ⌜ FineIn h (now ws) (r .0) ⌝ }
+    requires { ⌜ place + length (class-piece-in h (now ws) (r .0)) ≤ length (now out) ⌝ }
+    ensures { λ p. ⌜ Wrote (now (out .entry)) place (class-piece-in h (now (ws .entry)) (r .0)) p (now (out .exit)) ⌝ }
 {
     let k = parts::on_members::len(ws, h, r);
     if k == 0 {
@@ -117,8 +117,9 @@ fn put_class(ws: &[u32], h: Head, out: &mut [u32], place: usize, r: usize) -> us
     }
     let w = class_words(ws, h, r);
     put_members(ws, h, out, place + 2, r, w);
-    out[place] = r as u32;
-    out[place + 1] = k as u32;
+    let count = k as u32;
+    out[place] = r.0;
+    out[place + 1] = count;
     place + 2 + w
 }
 
@@ -133,7 +134,7 @@ pub fn put_classes(ws: &[u32], h: Head, out: &mut [u32]) -> usize
     let mut at: usize = 0;
     let mut i: usize = 0;
     while i < ids {
-        at = put_class(ws, h, out, at, i);
+        at = put_class(ws, h, out, at, Id(i as u32));
         i += 1;
     }
     at

@@ -13,12 +13,12 @@ use language::Op;
 use layout::Head;
 
 // Whether the key of an id has the operator.
-fn op_is(ws: &[u32], h: Head, id: usize, op: Op) -> bool
+fn op_is(ws: &[u32], h: Head, id: Id, op: Op) -> bool
     requires { ⌜ HeadOk (length (now ws)) h ⌝ }
-    requires { ⌜ id < h .n ⌝ }
-    ensures { λ b. ⌜ Says b (OpIs (view (h .n) (h .m) (now (ws .entry)) .rows) (h .n) (h .m) (op .0) id) ⌝ }
+    requires { ⌜ id .0 < h .n ⌝ }
+    ensures { λ b. ⌜ Says b (OpIs (view (h .n) (h .m) (now (ws .entry)) .rows) (h .n) (h .m) (op .0) (id .0)) ⌝ }
 {
-    let f = parts::on_rows::key(ws, h, Id(id as u32));
+    let f = parts::on_rows::key(ws, h, id);
     let node = f.node;
     if node.op.0 == op.0 {
         return true;
@@ -27,11 +27,11 @@ fn op_is(ws: &[u32], h: Head, id: usize, op: Op) -> bool
 }
 
 // Whether a node of the class has it.
-fn has_op(ws: &[u32], h: Head, r: usize, op: Op) -> bool
+fn has_op(ws: &[u32], h: Head, r: Id, op: Op) -> bool
     requires { ⌜ HeadOk (length (now ws)) h ⌝ }
-    requires { ⌜ r < h .ids ⌝ }
-    requires { ⌜ FineIn h (now ws) r ⌝ }
-    ensures { λ b. ⌜ Says b (HasOpIn h (now (ws .entry)) (op .0) r) ⌝ }
+    requires { ⌜ r .0 < h .ids ⌝ }
+    requires { ⌜ FineIn h (now ws) (r .0) ⌝ }
+    ensures { λ b. ⌜ Says b (HasOpIn h (now (ws .entry)) (op .0) (r .0)) ⌝ }
 {
     let mut left = parts::on_members::len(ws, h, r);
     let mut id = parts::on_members::last(ws, h, r);
@@ -46,11 +46,11 @@ fn has_op(ws: &[u32], h: Head, r: usize, op: Op) -> bool
 }
 
 // How many words the class of an id takes in the list: one or none.
-fn op_words(ws: &[u32], h: Head, r: usize, op: Op) -> usize
+fn op_words(ws: &[u32], h: Head, r: Id, op: Op) -> usize
     requires { ⌜ HeadOk (length (now ws)) h ⌝ }
-    requires { ⌜ r < h .ids ⌝ }
-    requires { ⌜ FineIn h (now ws) r ⌝ }
-    ensures { λ k. ⌜ (k ≡ length (op-piece-in h (now (ws .entry)) (op .0) r)) × (k ≤ 1) ⌝ }
+    requires { ⌜ r .0 < h .ids ⌝ }
+    requires { ⌜ FineIn h (now ws) (r .0) ⌝ }
+    ensures { λ k. ⌜ (k ≡ length (op-piece-in h (now (ws .entry)) (op .0) (r .0))) × (k ≤ 1) ⌝ }
 {
     if has_op(ws, h, r, op) {
         return 1;
@@ -68,22 +68,22 @@ pub fn measure_ops(ws: &[u32], h: Head, op: Op) -> usize
     let mut count: usize = 0;
     let mut i: usize = 0;
     while i < ids {
-        count += op_words(ws, h, i, op);
+        count += op_words(ws, h, Id(i as u32), op);
         i += 1;
     }
     count
 }
 
 // The class of an id, if it has the operator; the place behind it.
-fn put_op(ws: &[u32], h: Head, op: Op, out: &mut [u32], place: usize, r: usize) -> usize
+fn put_op(ws: &[u32], h: Head, op: Op, out: &mut [u32], place: usize, r: Id) -> usize
     requires { ⌜ HeadOk (length (now ws)) h ⌝ }
-    requires { ⌜ r < h .ids ⌝ }
-    requires { ⌜ FineIn h (now ws) r ⌝ }
-    requires { ⌜ place + length (op-piece-in h (now ws) (op .0) r) ≤ length (now out) ⌝ }
-    ensures { λ p. ⌜ Wrote (now (out .entry)) place (op-piece-in h (now (ws .entry)) (op .0) r) p (now (out .exit)) ⌝ }
+    requires { ⌜ r .0 < h .ids ⌝ }
+    requires { ⌜ FineIn h (now ws) (r .0) ⌝ }
+    requires { ⌜ place + length (op-piece-in h (now ws) (op .0) (r .0)) ≤ length (now out) ⌝ }
+    ensures { λ p. ⌜ Wrote (now (out .entry)) place (op-piece-in h (now (ws .entry)) (op .0) (r .0)) p (now (out .exit)) ⌝ }
 {
     if has_op(ws, h, r, op) {
-        out[place] = r as u32;
+        out[place] = r.0;
         return place + 1;
     }
     place
@@ -100,7 +100,7 @@ pub fn put_ops(ws: &[u32], h: Head, op: Op, out: &mut [u32]) -> usize
     let mut at: usize = 0;
     let mut i: usize = 0;
     while i < ids {
-        at = put_op(ws, h, op, out, at, i);
+        at = put_op(ws, h, op, out, at, Id(i as u32));
         i += 1;
     }
     at

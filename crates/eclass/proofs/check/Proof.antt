@@ -29,6 +29,9 @@ returns c = broken-total _ _ _ _ _ _ (c .before .before .count-nodes .ensures) (
 loop-holds : tie.Need-loop-holds Inv-loop μ-loop
 loop-holds c = (omega arith, all-none _ _ _ _ _)
 
+cast-t8 : tie.Need-cast-t8 Inv-loop μ-loop
+cast-t8 c = omega (arith, (c .before .before .before .before .before .before .before .pre .ids-in), (c .before .before .before .before .before .before .before .pre .n-high))
+
 check-class-requires : tie.Need-check-class-requires Inv-loop μ-loop
 check-class-requires c κs = (c .before .before .before .before .before .before .before .pre, omega arith)
 
@@ -58,6 +61,7 @@ check-spec =
     enum-told
     returns
     loop-holds
+    cast-t8
     check-class-requires
     returns-2
     add-i

@@ -17,6 +17,9 @@ abbrev μ-loop : tie.MeasureT-loop
 loop-holds : tie.Need-loop-holds Inv-loop μ-loop
 loop-holds c = (omega arith, omega arith, total-none _ _)
 
+cast-t8 : tie.Need-cast-t8 Inv-loop μ-loop
+cast-t8 c = omega (arith, (c .before .before .before .pre .ids-in), (c .before .before .before .pre .n-high))
+
 len-requires : tie.Need-len-requires Inv-loop μ-loop
 len-requires c κs = (ok-fits (c .before .before .before .pre), omega (arith, (c .before .before .before .pre .ids-in)))
 
@@ -48,6 +51,7 @@ count-nodes-spec =
     Inv-loop
     μ-loop
     loop-holds
+    cast-t8
     len-requires
     sub-if1
     returns

@@ -7,9 +7,6 @@ use Rattle.eclass.proofs.fine_id.Tie as tie
 returns : tie.Need-returns
 returns c = id-off _ _ _ _ _ (c .if1 .taken)
 
-cast-t7 : tie.Need-cast-t7
-cast-t7 c = search needs
-
 key-requires : tie.Need-key-requires
 key-requires c κs = search needs
 
@@ -27,4 +24,12 @@ returns-3 c = id-fine _ _ _ _ _ _ (omega arith) (c .before .before .key .ensures
 
 pub fine-id-spec : {M : Type 1} → statement M
 fine-id-spec =
-    tie.close (tie.spec returns cast-t7 key-requires enum-told enum-told-2 returns-2 returns-3)
+    tie.close
+    (tie.spec
+    (λ c. search needs)
+    returns
+    key-requires
+    enum-told
+    enum-told-2
+    returns-2
+    returns-3)

@@ -3,9 +3,6 @@ use borrow.Author.Needs.{needs}
 use Rattle.eclass.proofs.listing.id_words.Statement.{statement}
 use Rattle.eclass.proofs.listing.id_words.Tie as tie
 
-cast-t5 : tie.Need-cast-t5
-cast-t5 c = search needs
-
 key-requires : tie.Need-key-requires
 key-requires c κs = search needs
 
@@ -16,4 +13,9 @@ returns : tie.Need-returns
 returns c = id-words _ _ _ _ _ _ (c .before .key .ensures) (c .node-length .ensures)
 
 pub id-words-spec : {M : Type 1} → statement M
-id-words-spec = tie.close (tie.spec cast-t5 key-requires node-length-requires returns)
+id-words-spec =
+    tie.close
+    (tie.spec
+    key-requires
+    node-length-requires
+    returns)

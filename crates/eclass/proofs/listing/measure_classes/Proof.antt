@@ -17,6 +17,9 @@ abbrev μ-loop : tie.MeasureT-loop
 loop-holds : tie.Need-loop-holds Inv-loop μ-loop
 loop-holds c = (omega arith, omega arith, long-none _)
 
+cast-t8 : tie.Need-cast-t8 Inv-loop μ-loop
+cast-t8 c = omega (arith, (c .before .before .before .pre .0 .ids-in), (c .before .before .before .pre .0 .n-high))
+
 piece-words-requires : tie.Need-piece-words-requires Inv-loop μ-loop
 piece-words-requires c κs = (c .before .before .before .pre .0, (omega arith, c .before .before .before .pre .1 .fine (c .before .loop .i) (omega arith)))
 
@@ -42,6 +45,7 @@ measure-classes-spec =
     Inv-loop
     μ-loop
     loop-holds
+    cast-t8
     piece-words-requires
     add-total
     add-i

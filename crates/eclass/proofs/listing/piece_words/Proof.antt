@@ -21,4 +21,10 @@ returns-2 c = (piece-long _ _ _ _ _ _ _ (c .before .before .len .ensures .exact)
 
 pub piece-words-spec : {M : Type 1} → statement M
 piece-words-spec =
-    tie.close (tie.spec len-requires returns class-words-requires add-result returns-2)
+    tie.close
+    (tie.spec
+    len-requires
+    returns
+    class-words-requires
+    add-result
+    returns-2)

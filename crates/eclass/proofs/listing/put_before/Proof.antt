@@ -3,9 +3,6 @@ use borrow.Author.Needs.{needs}
 use Rattle.eclass.proofs.listing.put_before.Statement.{statement}
 use Rattle.eclass.proofs.listing.put_before.Tie as tie
 
-cast-t9 : tie.Need-cast-t9
-cast-t9 c = search needs
-
 key-requires : tie.Need-key-requires
 key-requires c κs = search needs
 
@@ -28,7 +25,6 @@ pub put-before-spec : {M : Type 1} → statement M
 put-before-spec =
     tie.close
     (tie.spec
-    cast-t9
     key-requires
     node-length-requires
     sub-start

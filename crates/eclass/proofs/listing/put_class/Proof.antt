@@ -21,17 +21,11 @@ add-put-members c = search needs
 put-members-requires : tie.Need-put-members-requires
 put-members-requires c κs = (c .before .before .before .before .before .before .pre .0, (c .before .before .before .before .before .before .pre .1 .0, (c .before .before .before .before .before .before .pre .1 .1 .0, (c .before .class-words .ensures .0, piece-room _ _ _ _ _ _ _ (c .before .before .before .len .ensures .exact) (omega arith) (c .before .class-words .ensures .0) _ _ (c .before .before .before .before .before .before .pre .1 .1 .1)))))
 
-cast-out : tie.Need-cast-out
-cast-out c = search needs
-
 mul-out : tie.Need-mul-out
 mul-out c = search needs
 
 slice-write-out : tie.Need-slice-write-out
 slice-write-out c = omega (arith, (c .before .before .put-members .ensures .size), piece-room _ _ _ _ _ _ _ (c .before .before .before .before .before .before .len .ensures .exact) (omega arith) (c .before .before .before .before .class-words .ensures .0) _ _ (c .before .before .before .before .before .before .before .before .before .pre .1 .1 .1))
-
-cast-out-2 : tie.Need-cast-out-2
-cast-out-2 c = search needs
 
 add-out : tie.Need-add-out
 add-out c = search needs
@@ -63,10 +57,9 @@ put-class-spec =
     class-words-requires
     add-put-members
     put-members-requires
-    cast-out
+    (λ c. search needs)
     mul-out
     slice-write-out
-    cast-out-2
     add-out
     mul-out-2
     slice-write-out-2

@@ -16,6 +16,9 @@ abbrev μ-loop : tie.MeasureT-loop
 loop-holds : tie.Need-loop-holds Inv-loop μ-loop
 loop-holds c = (omega arith, pieces-start _ _)
 
+cast-t10 : tie.Need-cast-t10 Inv-loop μ-loop
+cast-t10 c = omega (arith, (c .before .before .before .before .before .pre .0 .ids-in), (c .before .before .before .before .before .pre .0 .n-high))
+
 put-class-requires : tie.Need-put-class-requires Inv-loop μ-loop
 put-class-requires c κs = (c .before .before .before .before .before .pre .0, (omega arith, (c .before .before .before .before .before .pre .1 .0 .fine (c .before .before .loop .i) (omega arith), pieces-room _ _ (c .before .before .loop .i) _ _ (c .before .before .loop .inv .1) _ (omega arith) (c .before .before .before .before .before .pre .1 .1))))
 
@@ -41,6 +44,7 @@ put-classes-spec =
     Inv-loop
     μ-loop
     loop-holds
+    cast-t10
     put-class-requires
     add-i
     loop-less

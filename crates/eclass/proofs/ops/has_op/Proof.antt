@@ -1,16 +1,16 @@
 use native.Mathlib.Omega.{arith}
 use Rattle.layout.specs.Head.{ok-fits}
 use Rattle.layout.specs.View.{view}
-use Rattle.eclass.specs.ClassWalk.{Walk, walk-low}
+use Rattle.eclass.specs.ClassWalk.{WalkFrom, walk-low}
 use Rattle.eclass.specs.Ops.{NoneHas, has-end, has-found, has-more, has-start}
 use Rattle.eclass.proofs.ops.has_op.Statement.{statement}
 use Rattle.eclass.proofs.ops.has_op.Tie as tie
 
 abbrev Inv-loop : tie.InvT-loop
-Inv-loop ws h r op left₀ id₀ left id = Walk (view (h .n) (h .m) ws .members) (h .n) r left id (NoneHas (view (h .n) (h .m) ws .rows) (h .n) (h .m) (op .0))
+Inv-loop ws h op left₀ id₀ left id = WalkFrom (view (h .n) (h .m) ws .members) (h .n) left₀ (id₀ .0) left (id .0) (NoneHas (view (h .n) (h .m) ws .rows) (h .n) (h .m) (op .0))
 
 abbrev μ-loop : tie.MeasureT-loop
-μ-loop ws h r op left₀ id₀ left id = left
+μ-loop ws h op left₀ id₀ left id = left
 
 len-requires : tie.Need-len-requires Inv-loop μ-loop
 len-requires c κs = (ok-fits (c .before .pre .0), omega (arith, (c .before .pre .0 .ids-in)))
@@ -19,16 +19,16 @@ last-requires : tie.Need-last-requires Inv-loop μ-loop
 last-requires c κs = (ok-fits (c .before .before .pre .0), omega (arith, (c .before .before .pre .0 .ids-in)))
 
 loop-holds : tie.Need-loop-holds Inv-loop μ-loop
-loop-holds c = has-start _ _ _ _ _ _ _ _ (c .before .len .ensures .exact) (c .last .ensures .exact)
+loop-holds c = λ r k e. has-start _ _ _ _ _ r _ _ k e
 
 op-is-requires : tie.Need-op-is-requires Inv-loop μ-loop
-op-is-requires c κs = (c .before .before .before .before .before .pre .0, omega (arith, (c .before .before .before .before .before .pre .0 .ids-in), walk-low _ _ _ _ _ _ _ _ _ (c .loop-test .taken) (c .before .before .before .before .before .pre .1 .1) (c .before .loop .inv)))
+op-is-requires c κs = (c .before .before .before .before .before .pre .0, omega (arith, (c .before .before .before .before .before .pre .0 .ids-in), walk-low _ _ _ _ _ _ _ _ _ (c .loop-test .taken) (c .before .before .before .before .before .pre .1 .1) (c .before .loop .inv _ (c .before .before .before .len .ensures .exact) (c .before .before .last .ensures .exact))))
 
 returns : tie.Need-returns Inv-loop μ-loop
-returns c = has-found _ _ _ _ _ _ _ _ _ (c .before .before .loop-test .taken) (c .before .op-is .ensures) (c .if1 .taken) (c .before .before .before .loop .inv)
+returns c = has-found _ _ _ _ _ _ _ _ _ (c .before .before .loop-test .taken) (c .before .op-is .ensures) (c .if1 .taken) (c .before .before .before .loop .inv _ (c .before .before .before .before .before .len .ensures .exact) (c .before .before .before .before .last .ensures .exact))
 
 link-requires : tie.Need-link-requires Inv-loop μ-loop
-link-requires c κs = (ok-fits (c .before .before .before .before .before .before .before .pre .0), omega (arith, (c .before .before .before .before .before .before .before .pre .0 .ids-in), walk-low _ _ _ _ _ _ _ _ _ (c .before .before .loop-test .taken) (c .before .before .before .before .before .before .before .pre .1 .1) (c .before .before .before .loop .inv)))
+link-requires c κs = (ok-fits (c .before .before .before .before .before .before .before .pre .0), omega (arith, (c .before .before .before .before .before .before .before .pre .0 .ids-in), walk-low _ _ _ _ _ _ _ _ _ (c .before .before .loop-test .taken) (c .before .before .before .before .before .before .before .pre .1 .1) (c .before .before .before .loop .inv _ (c .before .before .before .before .before .len .ensures .exact) (c .before .before .before .before .last .ensures .exact))))
 
 sub-left : tie.Need-sub-left Inv-loop μ-loop
 sub-left c = omega arith
@@ -37,10 +37,10 @@ loop-less : tie.Need-loop-less Inv-loop μ-loop
 loop-less c = omega arith
 
 loop-again : tie.Need-loop-again Inv-loop μ-loop
-loop-again c = has-more _ _ _ _ _ _ _ _ _ _ (c .before .before .before .loop-test .taken) (c .link .ensures .exact) (c .before .before .op-is .ensures) (c .before .if1 .left) (c .before .before .before .before .loop .inv)
+loop-again c = λ r k e. has-more _ _ _ _ _ _ _ _ _ _ (c .before .before .before .loop-test .taken) (c .link .ensures .exact) (c .before .before .op-is .ensures) (c .before .if1 .left) (c .before .before .before .before .loop .inv r k e)
 
 returns-2 : tie.Need-returns-2 Inv-loop μ-loop
-returns-2 c = has-end _ _ _ _ _ _ _ _ (omega arith) (c .before .loop .inv)
+returns-2 c = has-end _ _ _ _ _ _ _ _ (omega arith) (c .before .loop .inv _ (c .before .before .before .len .ensures .exact) (c .before .before .last .ensures .exact))
 
 pub has-op-spec : {M : Type 1} → statement M
 has-op-spec =

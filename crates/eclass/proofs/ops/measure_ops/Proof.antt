@@ -17,6 +17,9 @@ abbrev μ-loop : tie.MeasureT-loop
 loop-holds : tie.Need-loop-holds Inv-loop μ-loop
 loop-holds c = (omega arith, omega arith, long-none _)
 
+cast-t9 : tie.Need-cast-t9 Inv-loop μ-loop
+cast-t9 c = omega (arith, (c .before .before .before .pre .0 .ids-in), (c .before .before .before .pre .0 .n-high))
+
 op-words-requires : tie.Need-op-words-requires Inv-loop μ-loop
 op-words-requires c κs = (c .before .before .before .pre .0, (omega arith, c .before .before .before .pre .1 .fine (c .before .loop .i) (omega arith)))
 
@@ -42,6 +45,7 @@ measure-ops-spec =
     Inv-loop
     μ-loop
     loop-holds
+    cast-t9
     op-words-requires
     add-count
     add-i

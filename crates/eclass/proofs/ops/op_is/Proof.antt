@@ -3,9 +3,6 @@ use borrow.Author.Needs.{needs}
 use Rattle.eclass.proofs.ops.op_is.Statement.{statement}
 use Rattle.eclass.proofs.ops.op_is.Tie as tie
 
-cast-t7 : tie.Need-cast-t7
-cast-t7 c = search needs
-
 key-requires : tie.Need-key-requires
 key-requires c κs = search needs
 
@@ -16,4 +13,9 @@ returns-2 : tie.Need-returns-2
 returns-2 c = op-other _ _ _ _ _ _ (c .before .before .before .before .key .ensures) (c .if1 .left)
 
 pub op-is-spec : {M : Type 1} → statement M
-op-is-spec = tie.close (tie.spec cast-t7 key-requires returns returns-2)
+op-is-spec =
+    tie.close
+    (tie.spec
+    key-requires
+    returns
+    returns-2)

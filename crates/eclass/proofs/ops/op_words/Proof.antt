@@ -14,4 +14,9 @@ returns-2 : tie.Need-returns-2
 returns-2 c = (op-zero _ _ _ _ _ _ _ (c .before .has-op .ensures) (c .if1 .left), omega arith)
 
 pub op-words-spec : {M : Type 1} → statement M
-op-words-spec = tie.close (tie.spec has-op-requires returns returns-2)
+op-words-spec =
+    tie.close
+    (tie.spec
+    has-op-requires
+    returns
+    returns-2)

@@ -7,9 +7,6 @@ use Rattle.eclass.proofs.ops.put_op.Tie as tie
 has-op-requires : tie.Need-has-op-requires
 has-op-requires c κs = search needs
 
-cast-out : tie.Need-cast-out
-cast-out c = search needs
-
 mul-out : tie.Need-mul-out
 mul-out c = search needs
 
@@ -33,7 +30,6 @@ put-op-spec =
     tie.close
     (tie.spec
     has-op-requires
-    cast-out
     mul-out
     slice-write-out
     add-result

@@ -16,6 +16,9 @@ abbrev μ-loop : tie.MeasureT-loop
 loop-holds : tie.Need-loop-holds Inv-loop μ-loop
 loop-holds c = (omega arith, pieces-start _ _)
 
+cast-t11 : tie.Need-cast-t11 Inv-loop μ-loop
+cast-t11 c = omega (arith, (c .before .before .before .before .before .pre .0 .ids-in), (c .before .before .before .before .before .pre .0 .n-high))
+
 put-op-requires : tie.Need-put-op-requires Inv-loop μ-loop
 put-op-requires c κs = (c .before .before .before .before .before .pre .0, (omega arith, (c .before .before .before .before .before .pre .1 .0 .fine (c .before .before .loop .i) (omega arith), pieces-room _ _ (c .before .before .loop .i) _ _ (c .before .before .loop .inv .1) _ (omega arith) (c .before .before .before .before .before .pre .1 .1))))
 
@@ -41,6 +44,7 @@ put-ops-spec =
     Inv-loop
     μ-loop
     loop-holds
+    cast-t11
     put-op-requires
     add-i
     loop-less
