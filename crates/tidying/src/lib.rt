@@ -18,47 +18,48 @@ ghost use Rattle.tidying.specs.Refill.{PutsBack, Refills};
 ghost use Rattle.tidying.specs.Says.{TidiesClass, Tidies};
 use cells::Change;
 use holds::Stepped;
+use language::Id;
 use layout::Head;
 
 // The k ids of a list to the start of the work area, in list order: the walk goes back from the last.
-fn copy(ws: &mut [u32], h: Head, list: usize, k: usize) -> Change
+fn copy(ws: &mut [u32], h: Head, list: Id, k: usize) -> Change
     requires { ⌜ HeadOk (length (now ws)) h ⌝ }
-    requires { ⌜ (list < h .n) × (k ≤ h .n) ⌝ }
-    ensures { λ r. ⌜ Lent sorting (h .n) (h .m) (Copies (view (h .n) (h .m) (now (ws .entry)) .members) (h .n) list k r) (now (ws .entry)) (now (ws .exit)) ⌝ }
+    requires { ⌜ (list .0 < h .n) × (k ≤ h .n) ⌝ }
+    ensures { λ r. ⌜ Lent sorting (h .n) (h .m) (Copies (view (h .n) (h .m) (now (ws .entry)) .members) (h .n) (list .0) k r) (now (ws .entry)) (now (ws .exit)) ⌝ }
 {
     let n = h.n;
     let mut id = parts::on_members::last(ws, h, list);
     let mut left = k;
     while 0 < left {
-        if n <= id {
+        if n <= id.0 as usize {
             return Change::ChangeBroken;
         }
         left -= 1;
-        layout::set_work(ws, h, left, id);
+        parts::on_sorting::set_work(ws, h, left, id);
         id = parts::on_members::link(ws, h, id);
     }
     Change::ChangeDone
 }
 
 // The id at place i of the work area to the end of a list.
-fn put_back(ws: &mut [u32], h: Head, list: usize, i: usize) -> Change
+fn put_back(ws: &mut [u32], h: Head, list: Id, i: usize) -> Change
     requires { ⌜ HeadOk (length (now ws)) h ⌝ }
-    requires { ⌜ (list < h .n) × (i < h .n) ⌝ }
-    ensures { λ r. ⌜ Lent members (h .n) (h .m) (PutsBack (view (h .n) (h .m) (now (ws .entry)) .sorting) (h .n) list i r) (now (ws .entry)) (now (ws .exit)) ⌝ }
+    requires { ⌜ (list .0 < h .n) × (i < h .n) ⌝ }
+    ensures { λ r. ⌜ Lent members (h .n) (h .m) (PutsBack (view (h .n) (h .m) (now (ws .entry)) .sorting) (h .n) (list .0) i r) (now (ws .entry)) (now (ws .exit)) ⌝ }
 {
     let n = h.n;
-    let id = layout::work(ws, h, i);
-    if n <= id {
+    let id = parts::on_sorting::work(ws, h, i);
+    if n <= id.0 as usize {
         return Change::ChangeBroken;
     }
     parts::on_members::push(ws, h, list, id)
 }
 
 // The first d ids of the work area to the end of a list, in order.
-fn refill(ws: &mut [u32], h: Head, list: usize, d: usize) -> Change
+fn refill(ws: &mut [u32], h: Head, list: Id, d: usize) -> Change
     requires { ⌜ HeadOk (length (now ws)) h ⌝ }
-    requires { ⌜ (list < h .n) × (d ≤ h .n) ⌝ }
-    ensures { λ r. ⌜ Lent members (h .n) (h .m) (Refills (view (h .n) (h .m) (now (ws .entry)) .sorting) (h .n) list d r) (now (ws .entry)) (now (ws .exit)) ⌝ }
+    requires { ⌜ (list .0 < h .n) × (d ≤ h .n) ⌝ }
+    ensures { λ r. ⌜ Lent members (h .n) (h .m) (Refills (view (h .n) (h .m) (now (ws .entry)) .sorting) (h .n) (list .0) d r) (now (ws .entry)) (now (ws .exit)) ⌝ }
 {
     let mut i: usize = 0;
     while i < d {
@@ -71,10 +72,10 @@ fn refill(ws: &mut [u32], h: Head, list: usize, d: usize) -> Change
 }
 
 // The list of one class sorted by the keys of its ids, and of ids with one key all but one dropped. A list of no class is empty, and stays so.
-fn tidy_class(ws: &mut [u32], h: Head, list: usize) -> Change
+fn tidy_class(ws: &mut [u32], h: Head, list: Id) -> Change
     requires { ⌜ HeadOk (length (now ws)) h ⌝ }
-    requires { ⌜ list < h .n ⌝ }
-    ensures { λ r. ⌜ TidiesClass h list (now (ws .entry)) r (now (ws .exit)) ⌝ }
+    requires { ⌜ list .0 < h .n ⌝ }
+    ensures { λ r. ⌜ TidiesClass h (list .0) (now (ws .entry)) r (now (ws .exit)) ⌝ }
 {
     let n = h.n;
     let k = parts::on_members::len(ws, h, list);
@@ -103,7 +104,7 @@ pub fn tidy(ws: &mut [u32], h: Head) -> Stepped
     let lists = h.ids;
     let mut i: usize = 0;
     while i < lists {
-        let Change::ChangeDone = tidy_class(ws, h, i) else {
+        let Change::ChangeDone = tidy_class(ws, h, Id(i as u32)) else {
             return Stepped::SteppedBroken;
         };
         i += 1;

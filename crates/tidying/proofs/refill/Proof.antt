@@ -8,7 +8,7 @@ use Rattle.tidying.proofs.refill.Statement.{statement}
 use Rattle.tidying.proofs.refill.Tie as tie
 
 abbrev Inv-loop : tie.InvT-loop
-Inv-loop ws₀ h list d i₀ ws i = (i ≤ d) × (length ws ≡ length ws₀) × RefilledTo (h .n) (h .m) list d i ws₀ ws
+Inv-loop ws₀ h list d i₀ ws i = (i ≤ d) × (length ws ≡ length ws₀) × RefilledTo (h .n) (h .m) (list .0) d i ws₀ ws
 
 abbrev μ-loop : tie.MeasureT-loop
 μ-loop ws₀ h list d i₀ ws i = d - i

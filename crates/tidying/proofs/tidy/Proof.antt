@@ -53,6 +53,7 @@ tidy-spec =
     Inv-loop
     μ-loop
     loop-holds
+    (λ c. search needs)
     tidy-class-requires
     enum-told
     enum-told-2
