@@ -21,14 +21,14 @@ use language::Node;
 use layout::Head;
 
 // An id whose key row is out of date leaves the table, and its key row is set.
-fn renew(ws: &mut [u32], h: Head, id: usize, key: Node) -> Change
+fn renew(ws: &mut [u32], h: Head, id: Id, key: Node) -> Change
     requires { ⌜ HeadOk (length (now ws)) h ⌝ }
-    requires { ⌜ (id < h .ids) × (key .count ≤ places) ⌝ }
-    ensures { λ r. ⌜ RenewSays h id (nodeOf key) (now (ws .entry)) r (now (ws .exit)) ⌝ }
+    requires { ⌜ (id .0 < h .ids) × (key .count ≤ places) ⌝ }
+    ensures { λ r. ⌜ RenewSays h (id .0) (nodeOf key) (now (ws .entry)) r (now (ws .exit)) ⌝ }
 {
     match taking::vacate(ws, h, id) {
         Change::ChangeBroken => Change::ChangeBroken,
-        Change::ChangeDone => match parts::on_rows::set_key(ws, h, Id(id as u32), key) {
+        Change::ChangeDone => match parts::on_rows::set_key(ws, h, id, key) {
             rows::Rekey::RekeyBroken => Change::ChangeBroken,
             rows::Rekey::RekeyDone => Change::ChangeDone,
         },
@@ -36,10 +36,10 @@ fn renew(ws: &mut [u32], h: Head, id: usize, key: Node) -> Change
 }
 
 // The key row of an id brought up to date.
-fn rechild(ws: &mut [u32], h: Head, id: usize) -> Change
+fn rechild(ws: &mut [u32], h: Head, id: Id) -> Change
     requires { ⌜ HeadOk (length (now ws)) h ⌝ }
-    requires { ⌜ id < h .ids ⌝ }
-    ensures { λ r. ⌜ RechildSays h id (now (ws .entry)) r (now (ws .exit)) ⌝ }
+    requires { ⌜ id .0 < h .ids ⌝ }
+    ensures { λ r. ⌜ RechildSays h (id .0) (now (ws .entry)) r (now (ws .exit)) ⌝ }
 {
     let f = taking::fresh_key(ws, h, id);
     let out = f.out;
@@ -47,7 +47,7 @@ fn rechild(ws: &mut [u32], h: Head, id: usize) -> Change
     match out {
         Rooting::RootingBroken => Change::ChangeBroken,
         Rooting::RootingDone => {
-            let was = parts::on_rows::key(ws, h, Id(id as u32));
+            let was = parts::on_rows::key(ws, h, id);
             let node = was.node;
             if node.same(key) {
                 return Change::ChangeDone;
@@ -65,7 +65,7 @@ pub fn rechild_all(ws: &mut [u32], h: Head) -> Change
     let ids = h.ids;
     let mut i: usize = 0;
     while i < ids {
-        let Change::ChangeDone = rechild(ws, h, i) else {
+        let Change::ChangeDone = rechild(ws, h, Id(i as u32)) else {
             return Change::ChangeBroken;
         };
         i += 1;

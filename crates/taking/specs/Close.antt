@@ -7,6 +7,7 @@ use mathlib.Core.Path.{_∙_, _≡_, ap, refl, subst, sym}
 use Prim.Native.Nat.{_<_, ℕ}
 use lib.ListN.{length}
 use Rattle.lists.specs.Tests.{zero-one}
+use Rattle.language.specs.declared.Id.{Id}
 use Rattle.steps.specs.Graph.{Graph, kept, key-of}
 use Rattle.steps.specs.Machine.{Joined, close, keyed}
 use Rattle.holds.specs.Holds.{HoldsAt}
@@ -51,9 +52,9 @@ was-new : (o : Option ℕ) → RekeyedNew ≡ was o → o ≡ none
 was-new none e = refl
 was-new (some j) e = zero-one cc
 
-was-from : (x : ℕ) (o : Option ℕ) → RekeyedFrom x ≡ was o → o ≡ some x
+was-from : (x : Id) (o : Option ℕ) → RekeyedFrom x ≡ was o → o ≡ some (x .0)
 was-from x none e = zero-one cc
-was-from x (some j) e = let z : j ≡ x = cc in ap some z
+was-from x (some j) e = let z : _≡_ {A = Id} (record { 0 = j }) x = cc in ap (λ (y : Id). some (y .0)) z
 
 was-broken : {A : Type 0} (o : Option ℕ) → RekeyedBroken ≡ was o → A
 was-broken none e = zero-one cc
@@ -92,12 +93,12 @@ module _ (h : Head) (i : ℕ) (ws ws1 : List ℕ) (ok : HeadOk (length ws) h) (r
         subst (λ (t : Joined). (k : Head) × (ClosedNo h ≡ closed (t .answer) k) × HoldsAt k u (view (h .n) (h .m) ws1) (t .graph)) (sym c) (h, refl, s .1);
   }
 
-  module _ (x : ℕ) (e : r1 ≡ RekeyedFrom x) where
+  module _ (x : Id) (e : r1 ≡ RekeyedFrom x) where
     -- what `unite` asks for
-    pub close-asks : i < h .ids → HeadOk (length ws1) h × ((x < h .ids) × (i < h .ids))
+    pub close-asks : i < h .ids → HeadOk (length ws1) h × ((x .0 < h .ids) × (i < h .ids))
     close-asks l = (subst (λ (n : ℕ). HeadOk n h) (sym (K .inside .size)) ok, (K .range x e, l))
 
-    module _ (ws2 : List ℕ) (r2 : United) (U : UniteSays h x i ws1 r2 ws2) where
+    module _ (ws2 : List ℕ) (r2 : United) (U : UniteSays h (x .0) i ws1 r2 ws2) where
       joined : (g : Graph) (u : ℕ) → HoldsAt h u (view (h .n) (h .m) ws) g → Ripe g i
           → (k : Head) × (r2 ≡ told (closing g i .answer) k) × HoldsAt k u (view (h .n) (h .m) ws2) (closing g i .graph)
       unfolding close

@@ -8,6 +8,7 @@ use Prim.Native.Nat.{_<_, _≤_, ℕ}
 use native.Mathlib.Omega.{arith}
 use lib.ListN.{length}
 use Rattle.lists.specs.Tests.{zero-one}
+use Rattle.language.specs.declared.Id.{Id}
 use Rattle.steps.specs.Graph.{Graph, ids}
 use Rattle.steps.specs.Machine.{count, popped, step}
 use Rattle.closure.specs.Invariant.{Good, Same}
@@ -59,15 +60,15 @@ closed-no false k s e = let z : s ≡ k = cc in ap (λ (x : Head). EntryOne x 0)
 module _ (h : Head) (ws ws1 : List ℕ) (r1 : Taken) (T : TakeSays h ws r1 ws1) where
   -- where something is pending, the first is taken
   module _ (g : Graph) (u : ℕ) (us : List (ℕ × ℕ)) (H : HoldsAt h u (view (h .n) (h .m) ws) g) (O : Open us g) where
-    first : (i : ℕ) (rest : List ℕ) → g .pending ≡ i ∷ rest → (k : Head) × (r1 ≡ TakenId i k) × HoldsAt k u (view (h .n) (h .m) ws1) (popped g rest)
+    first : (i : ℕ) (rest : List ℕ) → g .pending ≡ i ∷ rest → (k : Head) × (r1 ≡ TakenId (record { 0 = i }) k) × HoldsAt k u (view (h .n) (h .m) ws1) (popped g rest)
     first i rest e = T .some g u H i rest e (top-lt us g i rest (O .good) e)
 
-    taken-some : {A : Type 0} → g .pending ≢ [] → ((x : ℕ) (k : Head) → r1 ≡ TakenId x k → A) → A
+    taken-some : {A : Type 0} → g .pending ≢ [] → ((x : Id) (k : Head) → r1 ≡ TakenId x k → A) → A
     taken-some {A} ne f = go (g .pending) refl
       where
         go : (l : List ℕ) → g .pending ≡ l → A
         go [] e = absurd (ne e)
-        go (i ∷ rest) e = let t = first i rest e in f i (t .0) (t .1)
+        go (i ∷ rest) e = let t = first i rest e in f (record { 0 = i }) (t .0) (t .1)
 
   pub entry-none : r1 ≡ TakenNone → EntrySays h ws EntryNone ws1
   entry-none e = record {
@@ -85,30 +86,30 @@ module _ (h : Head) (ws ws1 : List ℕ) (r1 : Taken) (T : TakeSays h ws r1 ws1) 
     some = λ g u us H O ne. taken-some g u us H O ne (λ x k f. zero-one cc);
   }
 
-  module _ (x : ℕ) (k : Head) (e1 : r1 ≡ TakenId x k) where
+  module _ (x : Id) (k : Head) (e1 : r1 ≡ TakenId x k) where
     near : NearIds (length ws) h k
     near = T .range x k e1 .1
 
     -- what `close` asks for
-    pub entry-asks : HeadOk (length ws1) k × (x < k .ids)
-    entry-asks = (subst (λ (n : ℕ). HeadOk n k) (sym (T .inside .size)) (near .near .ok), subst (λ (n : ℕ). x < n) (sym (near .ids-is)) (T .range x k e1 .0))
+    pub entry-asks : HeadOk (length ws1) k × (x .0 < k .ids)
+    entry-asks = (subst (λ (n : ℕ). HeadOk n k) (sym (T .inside .size)) (near .near .ok), subst (λ (n : ℕ). x .0 < n) (sym (near .ids-is)) (T .range x k e1 .0))
 
     -- the id and its entry are as the graph has them
     ready : (g : Graph) (u : ℕ) (us : List (ℕ × ℕ)) → HoldsAt h u (view (h .n) (h .m) ws) g → Open us g → (i : ℕ) (rest : List ℕ) → g .pending ≡ i ∷ rest
-        → (i ≡ x) × HoldsAt k u (view (k .n) (k .m) ws1) (popped g rest)
+        → (i ≡ x .0) × HoldsAt k u (view (k .n) (k .m) ws1) (popped g rest)
     ready g u us H O i rest e =
         let t = first g u us H O i rest e in
         let f = t .1 in
-        let q : i ≡ x = cc in
+        let q : _≡_ {A = Id} (record { 0 = i }) x = cc in
         let p : t .0 ≡ k = cc in
-        (q, subst (λ (v : View). HoldsAt k u v (popped g rest)) (sym (view-near near ws1)) (subst (λ (s : Head). HoldsAt s u (view (h .n) (h .m) ws1) (popped g rest)) p (t .2)))
+        (ap (λ (y : Id). y .0) q, subst (λ (v : View). HoldsAt k u v (popped g rest)) (sym (view-near near ws1)) (subst (λ (s : Head). HoldsAt s u (view (h .n) (h .m) ws1) (popped g rest)) p (t .2)))
 
     ripe : (g : Graph) (us : List (ℕ × ℕ)) → Open us g → (i : ℕ) (rest : List ℕ) → g .pending ≡ i ∷ rest → Ripe (popped g rest) i
     ripe g us O i rest e =
         let low = top-lt us g i rest (O .good) e in
         record { low = low; unclean = O .unclean; kids = λ c m. O .good .shape .kids-lt i c low m; own = λ s l f. O .keyed s i l f }
 
-    module _ (ws2 : List ℕ) (r2 : Closed) (C : CloseSays k x ws1 r2 ws2) where
+    module _ (ws2 : List ℕ) (r2 : Closed) (C : CloseSays k (x .0) ws1 r2 ws2) where
       inside2 : Inside (h .n) (h .m) ws ws2
       inside2 = inside-then (T .inside) (inside-near near (C .inside))
 

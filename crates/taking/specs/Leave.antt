@@ -41,7 +41,7 @@ use Rattle.taking.specs.declared.Rekeyed.the-variants.{RekeyedBroken, Re
 -- the answer for the id that the table kept
 abbrev pub was : Option ℕ → Rekeyed
 was none = RekeyedNew
-was (some j) = RekeyedFrom j
+was (some j) = RekeyedFrom (record { 0 = j })
 
 -- ---- the id that has the key k leaves
 
@@ -53,7 +53,7 @@ pub record Ousted (h : Head) (i : ℕ) (k : Term) (ks : List Term) (L : List (Li
 
 pub record OustSays (h : Head) (k : Term) (ws : List ℕ) (r : Rekeyed) (ws′ : List ℕ) : Type 0 where
   pub inside : Inside (h .n) (h .m) ws ws′
-  pub range : (x : ℕ) → r ≡ RekeyedFrom x → x < h .ids
+  pub range : (x : Id) → r ≡ RekeyedFrom x → x .0 < h .ids
   pub sound : (ns : List Term) (roots : List ℕ) (memo : List (Term × ℕ)) (D : Nodes (h .n) (h .m) (view (h .n) (h .m) ws .rows) (view (h .n) (h .m) ws .table) ns roots memo)
       (i : ℕ) → length ns ≡ h .ids → Live roots k
       → (r ≡ was (kept k memo)) × Ousted h i k (D .keys) (D .buckets) (view (h .n) (h .m) ws) ws′
@@ -86,18 +86,18 @@ module _ (h : Head) (k : Term) (ws : List ℕ) (a : Asked) (A : Answers (view (h
     module _ (b : ℕ) (B : Lands (h .n) k b) (ws1 : List ℕ) (c : Cut) (L : Lent table (h .n) (h .m) (λ w w′. Departed w w′ (h .n) b (x .0) c) ws ws1) where
       -- the id that the table kept is out
       out : (ns : List Term) (roots : List ℕ) (memo : List (Term × ℕ)) (D : Nodes (h .n) (h .m) (view (h .n) (h .m) ws .rows) (view (h .n) (h .m) ws .table) ns roots memo) (i : ℕ)
-          → Live roots k → (c ≡ CutDone) × (RekeyedFrom (x .0) ≡ was (kept k memo)) × Ousted h i k (D .keys) (D .buckets) (view (h .n) (h .m) ws) ws1
+          → Live roots k → (c ≡ CutDone) × (RekeyedFrom x ≡ was (kept k memo)) × Ousted h i k (D .keys) (D .buckets) (view (h .n) (h .m) ws) ws1
       out ns roots memo D i live =
           let f = nodes-ask _ _ _ _ ns roots memo D k a live A .found x e in
           let n = lent-next (subst (λ (y : ℕ). Lent table (h .n) (h .m) (λ w w′. Departed w w′ (h .n) y (x .0) c) ws ws1) (B .exact) L) refl in
           let o = rekey-other _ _ _ _ ns roots memo D i k (x .0) (n .new) c live f (n .did) in
           (o .0, ap was (sym f), record { ts = n .new; is = n .is; vacant = o .1 })
 
-      pub oust-done : (y : ℕ) → y ≡ x .0 → y < h .ids → OustSays h k ws (RekeyedFrom y) ws1
-      oust-done y is low = record {
+      pub oust-done : x .0 < h .ids → OustSays h k ws (RekeyedFrom x) ws1
+      oust-done low = record {
         inside = inside-lent (λ v l. refl) L;
-        range = λ z f. let q : y ≡ z = cc in omega arith;
-        sound = λ ns roots memo D i len live. let o = out ns roots memo D i live in (ap RekeyedFrom is ∙ o .1, o .2);
+        range = λ z f. let q : x ≡ z = cc in subst (λ (y : Id). y .0 < h .ids) q low;
+        sound = λ ns roots memo D i len live. let o = out ns roots memo D i live in (o .1, o .2);
       }
 
       oust-left : c ≢ CutDone → OustSays h k ws RekeyedBroken ws1

@@ -9,6 +9,7 @@ use Rattle.lists.specs.Members.{Mem}
 use Rattle.lists.specs.Tests.{zero-one}
 use Rattle.language.specs.Struct.{nodeOf}
 use Rattle.language.specs.Term.{Term}
+use Rattle.language.specs.declared.Id.{Id}
 use Rattle.steps.specs.Graph.{Graph, ids, kept, key-of, node}
 use Rattle.steps.specs.Machine.{keyed}
 use Rattle.closure.specs.Tables.{Live, canon-live}
@@ -38,7 +39,7 @@ pub record Ripe (g : Graph) (i : ℕ) : Type 0 where
 
 pub record RekeySays (h : Head) (i : ℕ) (ws : List ℕ) (r : Rekeyed) (ws′ : List ℕ) : Type 0 where
   pub inside : Inside (h .n) (h .m) ws ws′
-  pub range : (x : ℕ) → r ≡ RekeyedFrom x → x < h .ids
+  pub range : (x : Id) → r ≡ RekeyedFrom x → x .0 < h .ids
   pub sound : (g : Graph) (u : ℕ) → HoldsAt h u (view (h .n) (h .m) ws) g → Ripe g i
       → (r ≡ was (kept (key-of g i) (g .memo))) × HoldsAt h u (view (h .n) (h .m) ws′) (keyed g (key-of g i) i)
 

@@ -8,6 +8,7 @@ use native.Mathlib.Omega.{arith}
 use lib.ListN.{length}
 use Rattle.lists.specs.Reads.{at}
 use Rattle.lists.specs.Tests.{lt-or, zero-one}
+use Rattle.language.specs.declared.Id.{Id}
 use Rattle.steps.specs.Graph.{Graph, ids}
 use Rattle.steps.specs.Machine.{popped}
 use Rattle.cells.specs.Reading.{Word}
@@ -34,21 +35,21 @@ at-depth h d = record { n = h .n; m = h .m; ids = h .ids; places = h .places; de
 -- ---- the promises
 
 pub record Hands (h : Head) (d i : ℕ) (r : Taken) : Type 0 where
-  pub known : i < h .ids → r ≡ TakenId i (at-depth h d)
+  pub known : i < h .ids → r ≡ TakenId (record { 0 = i }) (at-depth h d)
   pub unknown : h .ids ≤ i → r ≡ TakenBroken
 
 pub record LastSays (h : Head) (place count : ℕ) (ws : List ℕ) (r : Taken) (ws′ : List ℕ) : Type 0 where
   pub inside : Inside (h .n) (h .m) ws ws′
-  pub range : (x : ℕ) (k : Head) → r ≡ TakenId x k → (x < h .ids) × NearIds (length ws) h k
+  pub range : (x : Id) (k : Head) → r ≡ TakenId x k → (x .0 < h .ids) × NearIds (length ws) h k
   pub sound : (g : Graph) (u : ℕ) → HoldsAt h u (view (h .n) (h .m) ws) g → (t : OnTop) → Tops (view (h .n) (h .m) ws .pending) (h .depth) t → t ≡ TopMany place count
-      → (i : ℕ) (rest : List ℕ) → g .pending ≡ i ∷ rest → i < ids g → (k : Head) × (r ≡ TakenId i k) × HoldsAt k u (view (h .n) (h .m) ws′) (popped g rest)
+      → (i : ℕ) (rest : List ℕ) → g .pending ≡ i ∷ rest → i < ids g → (k : Head) × (r ≡ TakenId (record { 0 = i }) k) × HoldsAt k u (view (h .n) (h .m) ws′) (popped g rest)
 
 pub record TakeSays (h : Head) (ws : List ℕ) (r : Taken) (ws′ : List ℕ) : Type 0 where
   pub inside : Inside (h .n) (h .m) ws ws′
-  pub range : (x : ℕ) (k : Head) → r ≡ TakenId x k → (x < h .ids) × NearIds (length ws) h k
+  pub range : (x : Id) (k : Head) → r ≡ TakenId x k → (x .0 < h .ids) × NearIds (length ws) h k
   pub none : (g : Graph) (u : ℕ) → HoldsAt h u (view (h .n) (h .m) ws) g → g .pending ≡ [] → (r ≡ TakenNone) × (ws′ ≡ ws)
   pub some : (g : Graph) (u : ℕ) → HoldsAt h u (view (h .n) (h .m) ws) g
-      → (i : ℕ) (rest : List ℕ) → g .pending ≡ i ∷ rest → i < ids g → (k : Head) × (r ≡ TakenId i k) × HoldsAt k u (view (h .n) (h .m) ws′) (popped g rest)
+      → (i : ℕ) (rest : List ℕ) → g .pending ≡ i ∷ rest → i < ids g → (k : Head) × (r ≡ TakenId (record { 0 = i }) k) × HoldsAt k u (view (h .n) (h .m) ws′) (popped g rest)
 
 -- ---- on the view
 
@@ -80,7 +81,7 @@ module _ {h : Head} {u : ℕ} {v : View} {g : Graph} (H : HoldsAt h u v g) where
 
 -- ---- an id handed out
 
-pub hand-known : (h : Head) (d i : ℕ) → i < h .ids → Hands h d i (TakenId i (at-depth h d))
+pub hand-known : (h : Head) (d i : ℕ) → i < h .ids → Hands h d i (TakenId (record { 0 = i }) (at-depth h d))
 hand-known h d i l = record { known = λ _. refl; unknown = λ (z : h .ids ≤ i). absurd (omega arith) }
 
 pub hand-unknown : (h : Head) (d i : ℕ) → h .ids ≤ i → Hands h d i TakenBroken
@@ -90,13 +91,14 @@ near-depth : (len : ℕ) (h : Head) (d : ℕ) → HeadOk len h → d ≤ h .dept
 near-depth len h d ok le = record { near = record { ok = omega arith; n-is = refl; m-is = refl }; ids-is = refl; places-is = refl }
 
 hands-range : (len : ℕ) (h : Head) (d i : ℕ) (r : Taken) → HeadOk len h → d ≤ h .depth → Hands h d i r
-    → (x : ℕ) (k : Head) → r ≡ TakenId x k → (x < h .ids) × NearIds len h k
+    → (x : Id) (k : Head) → r ≡ TakenId x k → (x .0 < h .ids) × NearIds len h k
 hands-range len h d i r ok le K x k e = go (lt-or i (h .ids))
   where
-    go : (i < h .ids) ⊎ (h .ids ≤ i) → (x < h .ids) × NearIds len h k
+    go : (i < h .ids) ⊎ (h .ids ≤ i) → (x .0 < h .ids) × NearIds len h k
     go (inl l) =
         let f = K .known l in
-        let a : i ≡ x = cc in
+        let a : _≡_ {A = Id} (record { 0 = i }) x = cc in
+        let n : i ≡ x .0 = ap (λ (y : Id). y .0) a in
         let b : at-depth h d ≡ k = cc in
         (omega arith, subst (λ (s : Head). NearIds len h s) b (near-depth len h d ok le))
     go (inr l) = let f = K .unknown l in zero-one cc
@@ -124,7 +126,7 @@ module _ (h : Head) (ws : List ℕ) (ok : HeadOk (length ws) h) where
               let p = holds-popped H d j (at (view (h .n) (h .m) ws .owners) place) rest (a .new) (omega (arith, L .did .high)) e P in
               let ij : i ≡ j = O .is ∙ p .0 in
               let low : i < h .ids = omega (arith, H .ids-are) in
-              (at-depth h d, K .known low ∙ ap (λ (x : ℕ). TakenId x (at-depth h d)) ij, subst (λ (z : View). HoldsAt (at-depth h d) u z (popped g rest)) (sym (a .is)) (p .1));
+              (at-depth h d, K .known low ∙ ap (λ (x : ℕ). TakenId (record { 0 = x }) (at-depth h d)) ij, subst (λ (z : View). HoldsAt (at-depth h d) u z (popped g rest)) (sym (a .is)) (p .1));
         }
 
   -- ---- the ways out of `take`
@@ -150,7 +152,7 @@ module _ (h : Head) (ws : List ℕ) (ok : HeadOk (length ws) h) where
           let P = parents-take-one _ _ _ _ _ _ _ _ _ _ (H .parents) x t some T is in
           let p = holds-popped H (h .depth - 1) i x rest (view (h .n) (h .m) ws .pending) (omega arith) e P in
           let low : x < h .ids = omega (arith, H .ids-are, p .0) in
-          (at-depth h (h .depth - 1), K .known low ∙ ap (λ (y : ℕ). TakenId y (at-depth h (h .depth - 1))) (p .0), p .1);
+          (at-depth h (h .depth - 1), K .known low ∙ ap (λ (y : ℕ). TakenId (record { 0 = y }) (at-depth h (h .depth - 1))) (p .0), p .1);
     }
 
     pub take-many : (place count : ℕ) (ws1 : List ℕ) → t ≡ TopMany place count → LastSays h place count ws r ws1 → TakeSays h ws r ws1

@@ -29,19 +29,18 @@ use growing::Rooted;
 use growing::Rooting;
 use language::Id;
 use language::Node;
-use language::wide;
 use layout::Head;
 
 // The id taken and the new numbers of the head; or nothing is pending; or words that no calls could have produced.
 pub enum Taken {
-    TakenId(usize, Head),
+    TakenId(Id, Head),
     TakenNone,
     TakenBroken,
 }
 
 // The id that had the key before, if there was one; or words that no calls could have produced.
 pub enum Rekeyed {
-    RekeyedFrom(usize),
+    RekeyedFrom(Id),
     RekeyedNew,
     RekeyedBroken,
 }
@@ -69,10 +68,10 @@ pub enum Drained {
 // ---- the last of pending
 
 // The id, if it is one, with the depth that is left.
-fn hand(h: Head, depth: usize, id: usize) -> Taken
-    ensures { λ r. ⌜ Hands h depth id r ⌝ }
+fn hand(h: Head, depth: usize, id: Id) -> Taken
+    ensures { λ r. ⌜ Hands h depth (id .0) r ⌝ }
 {
-    if h.ids <= id {
+    if h.ids <= id.0 as usize {
         return Taken::TakenBroken;
     }
     let k = Head {
@@ -97,7 +96,7 @@ fn take_last(ws: &mut [u32], h: Head, place: usize, count: usize) -> Taken
     if m <= place {
         return Taken::TakenBroken;
     }
-    let id = layout::owner(ws, h, place);
+    let id = parts::on_owners::owner(ws, h, place);
     let before = parts::on_uses::link(ws, h, place);
     let depth = parts::on_pending::push_stretch(ws, h, h.depth - 1, before, count - 1);
     hand(h, depth, id)
@@ -113,20 +112,20 @@ pub fn take(ws: &mut [u32], h: Head) -> Taken
         return Taken::TakenNone;
     }
     match parts::on_pending::top(ws, h, depth) {
-        pending::OnTop::TopOne(id) => hand(h, depth - 1, id),
-        pending::OnTop::TopMany(place, count) => take_last(ws, h, place, count),
+        parts::OnTop::TopOne(id) => hand(h, depth - 1, id),
+        parts::OnTop::TopMany(place, count) => take_last(ws, h, place, count),
     }
 }
 
 // ---- its key in the table
 
 // The key of an id: its node as it was given, with root children.
-pub fn fresh_key(ws: &[u32], h: Head, id: usize) -> Rooted
+pub fn fresh_key(ws: &[u32], h: Head, id: Id) -> Rooted
     requires { ⌜ HeadOk (length (now ws)) h ⌝ }
-    requires { ⌜ id < h .ids ⌝ }
-    ensures { λ r. ⌜ FreshSays h id (now (ws .entry)) r ⌝ }
+    requires { ⌜ id .0 < h .ids ⌝ }
+    ensures { λ r. ⌜ FreshSays h (id .0) (now (ws .entry)) r ⌝ }
 {
-    let f = parts::on_rows::given(ws, h, Id(id as u32));
+    let f = parts::on_rows::given(ws, h, id);
     let out = f.out;
     let node = f.node;
     let broken = Rooting::RootingBroken;
@@ -157,13 +156,12 @@ fn oust(ws: &mut [u32], h: Head, key: Node) -> Rekeyed
         table::Asked::AskedBroken => Rekeyed::RekeyedBroken,
         table::Asked::AskedNone => Rekeyed::RekeyedNew,
         table::Asked::AskedAt(x) => {
-            let old = wide(x.0);
-            if h.ids <= old {
+            if h.ids <= x.0 as usize {
                 return Rekeyed::RekeyedBroken;
             }
             let bucket = table::bucket(key, h.n);
             match parts::on_table::leave(ws, h, bucket, x) {
-                Cut::CutDone => Rekeyed::RekeyedFrom(old),
+                Cut::CutDone => Rekeyed::RekeyedFrom(x),
                 Cut::CutAbsent => Rekeyed::RekeyedBroken,
                 Cut::CutBroken => Rekeyed::RekeyedBroken,
             }
@@ -172,19 +170,19 @@ fn oust(ws: &mut [u32], h: Head, key: Node) -> Rekeyed
 }
 
 // An id leaves the table, where it stands under the key that was set last, if it is there.
-pub fn vacate(ws: &mut [u32], h: Head, id: usize) -> Change
+pub fn vacate(ws: &mut [u32], h: Head, id: Id) -> Change
     requires { ⌜ HeadOk (length (now ws)) h ⌝ }
-    requires { ⌜ id < h .ids ⌝ }
-    ensures { λ r. ⌜ VacateSays h id (now (ws .entry)) r (now (ws .exit)) ⌝ }
+    requires { ⌜ id .0 < h .ids ⌝ }
+    ensures { λ r. ⌜ VacateSays h (id .0) (now (ws .entry)) r (now (ws .exit)) ⌝ }
 {
-    let f = parts::on_rows::key(ws, h, Id(id as u32));
+    let f = parts::on_rows::key(ws, h, id);
     let out = f.out;
     let node = f.node;
     match out {
         rows::Fetch::FetchBroken => Change::ChangeBroken,
         rows::Fetch::FetchDone => {
             let bucket = table::bucket(node, h.n);
-            match parts::on_table::leave(ws, h, bucket, Id(id as u32)) {
+            match parts::on_table::leave(ws, h, bucket, id) {
                 Cut::CutDone => Change::ChangeDone,
                 Cut::CutAbsent => Change::ChangeDone,
                 Cut::CutBroken => Change::ChangeBroken,
@@ -194,28 +192,28 @@ pub fn vacate(ws: &mut [u32], h: Head, id: usize) -> Change
 }
 
 // An id gets another key: it leaves the table under the old one, and goes in under the new one.
-fn settle(ws: &mut [u32], h: Head, id: usize, key: Node) -> Change
+fn settle(ws: &mut [u32], h: Head, id: Id, key: Node) -> Change
     requires { ⌜ HeadOk (length (now ws)) h ⌝ }
-    requires { ⌜ (id < h .ids) × (key .count ≤ places) ⌝ }
-    ensures { λ r. ⌜ SettleSays h id (nodeOf key) (now (ws .entry)) r (now (ws .exit)) ⌝ }
+    requires { ⌜ (id .0 < h .ids) × (key .count ≤ places) ⌝ }
+    ensures { λ r. ⌜ SettleSays h (id .0) (nodeOf key) (now (ws .entry)) r (now (ws .exit)) ⌝ }
 {
     match vacate(ws, h, id) {
         Change::ChangeBroken => Change::ChangeBroken,
-        Change::ChangeDone => match parts::on_rows::set_key(ws, h, Id(id as u32), key) {
+        Change::ChangeDone => match parts::on_rows::set_key(ws, h, id, key) {
             rows::Rekey::RekeyBroken => Change::ChangeBroken,
             rows::Rekey::RekeyDone => {
                 let bucket = table::bucket(key, h.n);
-                parts::on_table::enter(ws, h, bucket, Id(id as u32))
+                parts::on_table::enter(ws, h, bucket, id)
             }
         },
     }
 }
 
 // The table's entry for the key of an id is set to it.
-pub fn rekey(ws: &mut [u32], h: Head, id: usize) -> Rekeyed
+pub fn rekey(ws: &mut [u32], h: Head, id: Id) -> Rekeyed
     requires { ⌜ HeadOk (length (now ws)) h ⌝ }
-    requires { ⌜ id < h .ids ⌝ }
-    ensures { λ r. ⌜ RekeySays h id (now (ws .entry)) r (now (ws .exit)) ⌝ }
+    requires { ⌜ id .0 < h .ids ⌝ }
+    ensures { λ r. ⌜ RekeySays h (id .0) (now (ws .entry)) r (now (ws .exit)) ⌝ }
 {
     let f = fresh_key(ws, h, id);
     let out = f.out;
@@ -233,10 +231,10 @@ pub fn rekey(ws: &mut [u32], h: Head, id: usize) -> Rekeyed
 }
 
 // The table's entry for the key of an id is set to it; if the key had an id before, the two are united.
-pub fn close(ws: &mut [u32], h: Head, id: usize) -> Closed
+pub fn close(ws: &mut [u32], h: Head, id: Id) -> Closed
     requires { ⌜ HeadOk (length (now ws)) h ⌝ }
-    requires { ⌜ id < h .ids ⌝ }
-    ensures { λ r. ⌜ CloseSays h id (now (ws .entry)) r (now (ws .exit)) ⌝ }
+    requires { ⌜ id .0 < h .ids ⌝ }
+    ensures { λ r. ⌜ CloseSays h (id .0) (now (ws .entry)) r (now (ws .exit)) ⌝ }
 {
     match rekey(ws, h, id) {
         Rekeyed::RekeyedBroken => Closed::ClosedBroken,

@@ -12,9 +12,6 @@ enum-told c = search needs
 enum-told-2 : tie.Need-enum-told-2
 enum-told-2 c = search needs
 
-cast-t14 : tie.Need-cast-t14
-cast-t14 c = search needs
-
 key-requires : tie.Need-key-requires
 key-requires c κs = search needs
 
@@ -49,7 +46,6 @@ rechild-spec =
     fresh-key-requires
     enum-told
     enum-told-2
-    cast-t14
     key-requires
     same-requires
     same-length

@@ -53,6 +53,7 @@ rechild-all-spec =
     Inv-loop
     μ-loop
     loop-holds
+    (λ c. search needs)
     rechild-requires
     enum-told
     enum-told-2

@@ -12,9 +12,6 @@ enum-told c = search needs
 enum-told-2 : tie.Need-enum-told-2
 enum-told-2 c = search needs
 
-cast-t12 : tie.Need-cast-t12
-cast-t12 c = search needs
-
 set-key-requires : tie.Need-set-key-requires
 set-key-requires c κs = search needs
 
@@ -49,7 +46,6 @@ renew-spec =
     vacate-requires
     enum-told
     enum-told-2
-    cast-t12
     set-key-requires
     enum-told-3
     enum-told-4

@@ -3,9 +3,6 @@ use borrow.Author.Needs.{needs}
 use Rattle.taking.proofs.fresh_key.Statement.{statement}
 use Rattle.taking.proofs.fresh_key.Tie as tie
 
-cast-t8 : tie.Need-cast-t8
-cast-t8 c = search needs
-
 given-requires : tie.Need-given-requires
 given-requires c κs = search needs
 
@@ -34,7 +31,6 @@ pub fresh-key-spec : {M : Type 1} → statement M
 fresh-key-spec =
     tie.close
     (tie.spec
-    cast-t8
     given-requires
     enum-told
     enum-told-2

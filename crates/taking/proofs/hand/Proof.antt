@@ -1,3 +1,4 @@
+use borrow.Author.Needs.{needs}
 use native.Mathlib.Omega.{arith}
 use Rattle.taking.specs.Take.{hand-known, hand-unknown}
 use Rattle.taking.proofs.hand.Statement.{statement}
@@ -10,4 +11,9 @@ returns-2 : tie.Need-returns-2
 returns-2 c = hand-known _ _ _ (omega arith)
 
 pub hand-spec : {M : Type 1} → statement M
-hand-spec = tie.close (tie.spec returns returns-2)
+hand-spec =
+    tie.close
+    (tie.spec
+    (λ c. search needs)
+    returns
+    returns-2)

@@ -16,14 +16,11 @@ enum-told-2 c = search needs
 enum-known-x : tie.Need-enum-known-x
 enum-known-x c = search needs
 
-wide-requires : tie.Need-wide-requires
-wide-requires c κs = search needs
-
 same-length : tie.Need-same-length
 same-length c = search needs
 
 returns : tie.Need-returns
-returns c = oust-unknown _ _ _ _ (c .before .before .before .before .before .before .ask .ensures) _ (c .before .before .before .before .x .given .1) (omega (arith, c .before .before .wide .ensures .0, c .if1 .taken))
+returns c = oust-unknown _ _ _ _ (c .before .before .before .before .before .before .ask .ensures) _ (c .before .before .before .before .x .given .1) (c .if1 .taken)
 
 bucket-requires : tie.Need-bucket-requires
 bucket-requires c κs = search needs
@@ -56,7 +53,7 @@ same-length-4 : tie.Need-same-length-4
 same-length-4 c = search needs
 
 returns-4 : tie.Need-returns-4
-returns-4 c = oust-done _ _ _ _ (c .before .before .before .before .before .before .before .before .before .before .before .before .before .ask .ensures) _ (c .before .before .before .before .before .before .before .before .before .before .before .x .given .1) _ (c .before .before .before .before .before .before .bucket .ensures) _ _ (c .before .before .before .before .leave .ensures) _ (c .before .before .before .before .before .before .before .before .before .wide .ensures .0) (omega (arith, c .before .before .before .before .before .before .before .if1 .left))
+returns-4 c = oust-done _ _ _ _ (c .before .before .before .before .before .before .before .before .before .before .before .before .before .ask .ensures) _ (c .before .before .before .before .before .before .before .before .before .before .before .x .given .1) _ (c .before .before .before .before .before .before .bucket .ensures) _ _ (c .before .before .before .before .leave .ensures) (omega (arith, c .before .before .before .before .before .before .before .if1 .left))
 
 same-length-5 : tie.Need-same-length-5
 same-length-5 c = search needs
@@ -78,7 +75,7 @@ oust-spec =
     enum-told
     enum-told-2
     enum-known-x
-    wide-requires
+    (λ c. search needs)
     same-length
     returns
     bucket-requires

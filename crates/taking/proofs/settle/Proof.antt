@@ -12,9 +12,6 @@ enum-told c = search needs
 enum-told-2 : tie.Need-enum-told-2
 enum-told-2 c = search needs
 
-cast-t13 : tie.Need-cast-t13
-cast-t13 c = search needs
-
 set-key-requires : tie.Need-set-key-requires
 set-key-requires c κs = search needs
 
@@ -26,9 +23,6 @@ enum-told-4 c = search needs
 
 bucket-requires : tie.Need-bucket-requires
 bucket-requires c κs = search needs
-
-cast-t18 : tie.Need-cast-t18
-cast-t18 c = search needs
 
 enter-requires : tie.Need-enter-requires
 enter-requires c κs = search needs
@@ -58,12 +52,10 @@ settle-spec =
     vacate-requires
     enum-told
     enum-told-2
-    cast-t13
     set-key-requires
     enum-told-3
     enum-told-4
     bucket-requires
-    cast-t18
     enter-requires
     same-length
     returns

@@ -4,9 +4,6 @@ use borrow.Author.Needs.{needs}
 use Rattle.taking.proofs.vacate.Statement.{statement}
 use Rattle.taking.proofs.vacate.Tie as tie
 
-cast-t10 : tie.Need-cast-t10
-cast-t10 c = search needs
-
 key-requires : tie.Need-key-requires
 key-requires c κs = search needs
 
@@ -18,9 +15,6 @@ enum-told-2 c = search needs
 
 bucket-requires : tie.Need-bucket-requires
 bucket-requires c κs = search needs
-
-cast-t16 : tie.Need-cast-t16
-cast-t16 c = search needs
 
 leave-requires : tie.Need-leave-requires
 leave-requires c κs = search needs
@@ -62,12 +56,10 @@ pub vacate-spec : {M : Type 1} → statement M
 vacate-spec =
     tie.close
     (tie.spec
-    cast-t10
     key-requires
     enum-told
     enum-told-2
     bucket-requires
-    cast-t16
     leave-requires
     enum-told-3
     enum-told-4
