@@ -143,12 +143,12 @@ fn choose(best: Entry, price: u64, id: usize) -> Entry
 }
 
 // The node of an id is looked at, where `best` is the best of those behind it.
-fn better(ws: &[u32], h: Head, id: usize, best: Entry) -> Chosen
+fn better(ws: &[u32], h: Head, id: Id, best: Entry) -> Chosen
     requires { ⌜ HeadOk (length (now ws)) h ⌝ }
-    requires { ⌜ (id < h .n) × (best .mark ≤ h .n) ⌝ }
-    ensures { λ r. ⌜ Betters h id best (view (h .n) (h .m) (now (ws .entry))) r ⌝ }
+    requires { ⌜ (id .0 < h .n) × (best .mark ≤ h .n) ⌝ }
+    ensures { λ r. ⌜ Betters h (id .0) best (view (h .n) (h .m) (now (ws .entry))) r ⌝ }
 {
-    let got = parts::on_rows::key(ws, h, Id(id as u32));
+    let got = parts::on_rows::key(ws, h, id);
     let out = got.out;
     let node = got.node;
     let rows::Fetch::FetchDone = out else {
@@ -158,7 +158,7 @@ fn better(ws: &[u32], h: Head, id: usize, best: Entry) -> Chosen
         NodeCost::NodeCostBroken => Chosen::ChosenBroken,
         NodeCost::NodeCostNone => Chosen::ChosenIs(best),
         NodeCost::NodeCostIs(p) => {
-            let e = choose(best, p, id);
+            let e = choose(best, p, wide(id.0));
             Chosen::ChosenIs(e)
         }
     }
@@ -171,15 +171,16 @@ fn class_best(ws: &[u32], h: Head, r: usize) -> Chosen
     ensures { λ o. ⌜ BestOf h r (view (h .n) (h .m) (now (ws .entry))) o ⌝ }
 {
     let n = h.n;
-    let k = parts::on_members::len(ws, h, r);
+    let class = Id(r as u32);
+    let k = parts::on_members::len(ws, h, class);
     if n < k {
         return Chosen::ChosenBroken;
     }
     let mut best = Entry { mark: 0, price: 0 };
-    let mut id = parts::on_members::last(ws, h, r);
+    let mut id = parts::on_members::last(ws, h, class);
     let mut left = k;
     while 0 < left {
-        if n <= id {
+        if n <= wide(id.0) {
             return Chosen::ChosenBroken;
         }
         let Chosen::ChosenIs(e) = better(ws, h, id, best) else {
