@@ -1,5 +1,6 @@
 #!/usr/bin/env python3
-"""A second reading of document 01, to hold the oracle against: the same script on standard input, the same answers.
+"""model.py [N M]: a second reading of document 01, to hold the oracle against: the same script on standard input, the same
+answers. The words lent are those that N ids and M child places need, 8,192 and 32,768 where none are named.
 
 Written from the page's words alone, with plain lists; nothing here is taken from egg. Slow and short on purpose.
 """
@@ -20,13 +21,16 @@ def need(n, m):
     return 32 + 28 * n + 4 * m
 
 
+LENT = need(8_192, 32_768)
+
+
 class Graph:
     def __init__(self, n, m):
         if not 1 <= n <= 65_536 or not 0 <= m <= 262_144:
             raise Refused(1)
-        if need(n, m) > need(8_192, 32_768):
+        if need(n, m) > LENT:
             raise Refused(2)
-        self.n, self.m = n, m
+        self.n, self.m, self.places = n, m, 0
         self.stored = []  # the nodes as given: (operator, payload, children)
         self.root = []  # of each id
         self.parents = {}  # by root
@@ -60,9 +64,9 @@ class Graph:
         key = self.key(node)
         if key in self.table:
             return self.table[key]
-        places = sum(len(x[2]) for x in self.stored)
-        if len(self.stored) == self.n or places + len(node[2]) > self.m:
+        if len(self.stored) == self.n or self.places + len(node[2]) > self.m:
             raise Refused(6)
+        self.places += len(node[2])
         new = len(self.stored)
         self.stored.append(node)
         self.root.append(new)
@@ -216,6 +220,12 @@ def answer(state, line):
 
 
 def main():
+    global LENT
+    if len(sys.argv) not in (1, 3) or not all(a.isdecimal() for a in sys.argv[1:]):
+        print("usage: model.py [N M], with N and M numbers", file=sys.stderr)
+        sys.exit(2)
+    if len(sys.argv) == 3:
+        LENT = need(int(sys.argv[1]), int(sys.argv[2]))
     sys.setrecursionlimit(100_000)
     state = []
     lines = sys.stdin.buffer.read().split(b"\n")

@@ -8,13 +8,8 @@ use std::collections::BTreeMap;
 pub type Answer<T> = Result<T, u32>;
 
 /// The words that a graph with limits n and m needs; layout::need of the port.
-fn need(n: u64, m: u64) -> u64 {
+pub fn need(n: u64, m: u64) -> u64 {
     32 + 28 * n + 4 * m
-}
-
-/// The words that the script's graph is lent.
-fn lent() -> u64 {
-    need(8_192, 32_768)
 }
 
 pub struct Graph {
@@ -35,11 +30,12 @@ fn push_node(words: &mut Vec<u32>, node: &Node) {
 }
 
 impl Graph {
-    pub fn setup(n: u32, m: u32) -> Answer<Graph> {
+    /// A fresh graph in so many lent words.
+    pub fn setup(lent: u64, n: u32, m: u32) -> Answer<Graph> {
         if !(1..=65_536).contains(&n) || m > 262_144 {
             return Err(1);
         }
-        if need(n.into(), m.into()) > lent() {
+        if need(n.into(), m.into()) > lent {
             return Err(2);
         }
         Ok(Graph { egg: EGraph::new(()), n: n as usize, m: m as usize, places: 0 })

@@ -1,4 +1,5 @@
-//! The oracle: reads a script of calls on standard input and answers each with egg 0.11.0's own e-graph.
+//! oracle [N M]: reads a script of calls on standard input and answers each with egg 0.11.0's own e-graph. The words lent
+//! are those that N ids and M child places need, 8,192 and 32,768 where none are named.
 #![allow(dead_code, unused_imports, unused_macros, mismatched_lifetime_syntaxes, rustdoc::all)]
 
 #[path = "egg/eclass.rs"]
@@ -23,10 +24,19 @@ mod script;
 use std::io::{BufRead, Write};
 
 fn main() -> std::io::Result<()> {
+    let limits: Result<Vec<u32>, _> = std::env::args().skip(1).map(|a| a.parse()).collect();
+    let lent = match limits.as_deref() {
+        Ok([]) => graph::need(8_192, 32_768),
+        Ok([n, m]) => graph::need((*n).into(), (*m).into()),
+        _ => {
+            eprintln!("usage: oracle [N M], with N and M numbers");
+            std::process::exit(2)
+        }
+    };
     let mut out = std::io::BufWriter::new(std::io::stdout());
     let mut graph = None;
     for line in std::io::stdin().lock().split(b'\n') {
-        if let Some(answer) = script::answer(&mut graph, &line?) {
+        if let Some(answer) = script::answer(&mut graph, lent, &line?) {
             writeln!(out, "{answer}")?;
         }
     }

@@ -23,7 +23,7 @@ fn yes(is: bool) -> String {
 }
 
 /// What stands after the 0 of the answer, or the number of a refusal; none if the line is no call.
-fn call(graph: &mut Option<Graph>, line: &[u8]) -> Option<Answer<String>> {
+fn call(graph: &mut Option<Graph>, lent: u64, line: &[u8]) -> Option<Answer<String>> {
     let mut fields = line.split(|b| *b == b' ');
     let verb = std::str::from_utf8(fields.next()?).ok()?;
     let a: Vec<u32> = fields.map(number).collect::<Option<_>>()?;
@@ -38,7 +38,7 @@ fn call(graph: &mut Option<Graph>, line: &[u8]) -> Option<Answer<String>> {
         return None;
     }
     if verb == "setup" {
-        return Some(Graph::setup(a[0], a[1]).map(|fresh| {
+        return Some(Graph::setup(lent, a[0], a[1]).map(|fresh| {
             *graph = Some(fresh);
             String::new()
         }));
@@ -67,12 +67,12 @@ fn call(graph: &mut Option<Graph>, line: &[u8]) -> Option<Answer<String>> {
     })
 }
 
-/// The line that answers a line, both without line feeds; none for what is passed over.
-pub fn answer(graph: &mut Option<Graph>, line: &[u8]) -> Option<String> {
+/// The line that answers a line, both without line feeds; none for what is passed over. `lent` is the number of words lent.
+pub fn answer(graph: &mut Option<Graph>, lent: u64, line: &[u8]) -> Option<String> {
     if line.is_empty() || (line[0] == b'#' && line.len() <= LONGEST) {
         return None;
     }
-    Some(match call(graph, line) {
+    Some(match call(graph, lent, line) {
         None => "?".to_string(),
         Some(Err(refusal)) => format!("no {refusal}"),
         Some(Ok(rest)) => format!("0{rest}"),

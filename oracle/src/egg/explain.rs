@@ -5,6 +5,7 @@ use crate::*;
 /// A justification for a union, either via a rule or congruence.
 /// A direct union with a justification is also stored as a rule.
 #[derive(Debug, Clone, Hash, PartialEq, Eq)]
+#[cfg_attr(feature = "serde-1", derive(serde::Serialize, serde::Deserialize))]
 pub enum Justification {
     /// Justification by a rule with this name.
     Rule(Symbol),
