@@ -113,13 +113,12 @@ class Graph:
     def roots(self):
         return sorted(set(self.root))
 
-    def class_nodes(self, root):
-        keys = {self.key(x) for i, x in enumerate(self.stored) if self.root[i] == root}
-        return sorted(keys, key=lambda x: (x[0], x[1], len(x[2]), x[2]))
-
     def all_classes(self):
         self.must_be_clean()
-        return {r: self.class_nodes(r) for r in self.roots()}
+        classes = {r: set() for r in self.roots()}
+        for root, node in zip(self.root, self.stored):
+            classes[root].add(self.key(node))
+        return {r: sorted(xs, key=lambda x: (x[0], x[1], len(x[2]), x[2])) for r, xs in classes.items()}
 
     def classes(self):
         return [w for r, xs in self.all_classes().items() for w in [r, len(xs)] + written(xs)]
