@@ -45,6 +45,7 @@ use Rattle.extract.specs.Form.{FormSays, form-of, form-says}
 use Rattle.extract.specs.declared.CostAnswer.{CostAnswer}
 use Rattle.extract.specs.declared.FormAnswer.{FormAnswer}
 use Rattle.layout.specs.Cut.{need}
+use Rattle.layout.specs.declared.Head.{Head}
 use Rattle.theorems.specs.Behind.{behind, places-are, reached}
 use Rattle.theorems.specs.Course.{Run, words-again, words-demand-3, words-sound}
 use Rattle.theorems.specs.Forms.{BestForm, form-one}
@@ -81,8 +82,8 @@ demand-1-any-words ws = record {
   find-best-cost = λ i r ws′ s. cost-inside ws ws′ i r s;
   find-best = λ i out r ws′ out′ s. form-inside ws ws′ i out r out′ s;
   nodes = λ out r out′ s. nodes-inside ws out r out′ s;
-  classes = λ out r out′ s. list-inside _ ws out r out′ s;
-  classes-for-op = λ op out r out′ s. list-inside _ ws out r out′ s;
+  classes = λ out r out′ s. list-inside _ _ ws out r out′ s;
+  classes-for-op = λ op out r out′ s. list-inside _ _ ws out r out′ s;
 }
 
 -- ---- demand 1, on. Bad limits, short tables, unknown ids, too many children, no room and a graph not rebuilt are refused by number. A refused call changes no word of a
@@ -240,11 +241,11 @@ module _ (n m : ℕ) (us : List (ℕ × ℕ)) (ws : List ℕ) (g : Graph) (C : R
       found (inl h) = inl h
       found (inr h) = inr (room (nodeOf x) h)
 
-  list-refuses : (list : Graph → List ℕ) (out : List ℕ) (r : ListAnswer) (out′ : List ℕ) → ListSays list ws out r out′
+  list-refuses : (list : Graph → List ℕ) (reads : Head → List ℕ → List ℕ) (out : List ℕ) (r : ListAnswer) (out′ : List ℕ) → ListSays list reads ws out r out′
       → Fair (list-says r) (out′ ≡ out) × CleanLadder g (No (list-says r) (out′ ≡ out) 7) (LongLadder (list g) out (No (list-says r) (out′ ≡ out) 8) (Accepted (list-says r)))
-  list-refuses list out r out′ s = (
-    fair (λ (o : Written (list g) out r out′). accepted (o .0)) (Held.list-ends us ws g C list out r out′ s),
-    onto (λ t. long (list g) out r out′ t) (Held.list-is us ws g C list out r out′ s),
+  list-refuses list reads out r out′ s = (
+    fair (λ (o : Written (list g) out r out′). accepted (o .0)) (Held.list-ends us ws g C list reads out r out′ s),
+    onto (λ t. long (list g) out r out′ t) (Held.list-is us ws g C list reads out r out′ s),
   )
 
   refuses : Refuses n m g ws
@@ -258,8 +259,8 @@ module _ (n m : ℕ) (us : List (ℕ × ℕ)) (ws : List ℕ) (g : Graph) (C : R
       onto (λ o. accepted (o .answer)) (Held.union-held us ws g C i j r ws′ s),
     );
     rebuild = λ r ws′ s. let E = ends (C .made) in accepted (Held.rebuild-held us ws g C r ws′ s (E .0) (E .1) (E .2) (E .3) .answer);
-    classes = λ out r out′ s. list-refuses _ out r out′ s;
-    classes-for-op = λ op out r out′ s. list-refuses _ out r out′ s;
+    classes = λ out r out′ s. list-refuses _ _ out r out′ s;
+    classes-for-op = λ op out r out′ s. list-refuses _ _ out r out′ s;
     nodes = λ out r out′ s. (
       fair (λ (o : Written (Classes.nodes g) out r out′). accepted (o .0)) (Held.nodes-ends us ws g C out r out′ s),
       long (Classes.nodes g) out r out′ (Held.nodes-held us ws g C out r out′ s),
@@ -324,8 +325,8 @@ answers us ws g C = record {
   add-uncanonical = λ x r ws′ s e. answer (Held.adding-ends us ws g C _ x r ws′ s) e .answer;
   union = λ i j r ws′ s e. answer (Held.union-ends us ws g C i j r ws′ s) e .answer;
   rebuild = λ r ws′ s y t h q. Held.rebuild-held us ws g C r ws′ s y t h q .answer;
-  classes = λ out r out′ s. answer (Held.list-ends us ws g C _ out r out′ s);
-  classes-for-op = λ op out r out′ s. answer (Held.list-ends us ws g C _ out r out′ s);
+  classes = λ out r out′ s. answer (Held.list-ends us ws g C _ _ out r out′ s);
+  classes-for-op = λ op out r out′ s. answer (Held.list-ends us ws g C _ _ out r out′ s);
   nodes = λ out r out′ s. answer (Held.nodes-ends us ws g C out r out′ s);
   id-to-node = λ i r s. answer (Held.node-ends us ws g C i r s);
   is-empty = λ r s. Held.empty-held us ws g C r s;

@@ -158,8 +158,8 @@ module _ (us : List (ℕ × ℕ)) (ws : List ℕ) (g : Graph) (C : Run us ws g) 
   pub total-is : (r : CountAnswer) → TotalSays ws r → CleanLadder g (count-says r ≡ no-by 7) (count-says r ≡ yes-with (total-number-of-nodes g ∷ []))
   total-is r s = total-held ws g (C .holds) r s
 
-  pub list-is : (list : Graph → List ℕ) (out : List ℕ) (r : ListAnswer) (out′ : List ℕ) → ListSays list ws out r out′ → CleanLadder g (No (list-says r) (out′ ≡ out) 7) (Lists (list g) out r out′)
-  list-is list out r out′ s = list-held list ws g (C .holds) out r out′ s
+  pub list-is : (list : Graph → List ℕ) (reads : Head → List ℕ → List ℕ) (out : List ℕ) (r : ListAnswer) (out′ : List ℕ) → ListSays list reads ws out r out′ → CleanLadder g (No (list-says r) (out′ ≡ out) 7) (Lists (list g) out r out′)
+  list-is list reads out r out′ s = list-held list reads ws g (C .holds) out r out′ s
 
 -- ---- how a ladder ends
 
@@ -214,8 +214,8 @@ module _ (us : List (ℕ × ℕ)) (ws : List ℕ) (g : Graph) (C : Run us ws g) 
   pub total-ends : (r : CountAnswer) → TotalSays ws r → Refused (count-says r) (Unit {0}) ⊎ (count-says r ≡ yes-with (total-number-of-nodes g ∷ []))
   total-ends r s = fall-read (omega arith) (omega arith) (clean-or (g .clean)) (total-is us ws g C r s) inr
 
-  pub list-ends : (list : Graph → List ℕ) (out : List ℕ) (r : ListAnswer) (out′ : List ℕ) → ListSays list ws out r out′ → Refused (list-says r) (out′ ≡ out) ⊎ Written (list g) out r out′
-  list-ends list out r out′ s = fall (omega arith) (omega arith) (clean-or (g .clean)) (list-is us ws g C list out r out′ s) (λ L. fall-list (list g) out r out′ L)
+  pub list-ends : (list : Graph → List ℕ) (reads : Head → List ℕ → List ℕ) (out : List ℕ) (r : ListAnswer) (out′ : List ℕ) → ListSays list reads ws out r out′ → Refused (list-says r) (out′ ≡ out) ⊎ Written (list g) out r out′
+  list-ends list reads out r out′ s = fall (omega arith) (omega arith) (clean-or (g .clean)) (list-is us ws g C list reads out r out′ s) (λ L. fall-list (list g) out r out′ L)
 
   pub cost-ends : (i : ℕ) (r : CostAnswer) (ws′ : List ℕ) → CostSays ws i r ws′ → Refused (cost-says r) (Unit {0}) ⊎ Smallest g i r
   cost-ends i r ws′ s =

@@ -192,5 +192,5 @@ module _ (ws ws′ : List ℕ) where
 pub nodes-inside : (ws out : List ℕ) (r : ListAnswer) (out′ : List ℕ) → NodesSays ws out r out′ → length out′ ≡ length out
 nodes-inside ws out r out′ s = slice-down (good-or ws) (s .says) (λ o. o .size)
 
-pub list-inside : (list : Graph → List ℕ) (ws out : List ℕ) (r : ListAnswer) (out′ : List ℕ) → ListSays list ws out r out′ → length out′ ≡ length out
-list-inside list ws out r out′ s = slice-down (good-or ws) (s .says) (λ s. slice-down (clean-or (head-of ws .clean)) s (λ o. o .size))
+pub list-inside : (list : Graph → List ℕ) (reads : Head → List ℕ → List ℕ) (ws out : List ℕ) (r : ListAnswer) (out′ : List ℕ) → ListSays list reads ws out r out′ → length out′ ≡ length out
+list-inside list reads ws out r out′ s = slice-down (good-or ws) (s .says) (λ s. slice-down (clean-or (head-of ws .clean)) s (λ o. o .size))
