@@ -5,6 +5,7 @@ pub mod Unions
 pub mod Stored
 pub mod Listing
 pub mod ClassLists
+pub mod ClassReads
 pub mod Adds
 pub mod Rebuilds
 pub mod Whole

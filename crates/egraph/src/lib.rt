@@ -75,6 +75,18 @@ pub struct NodeAnswer {
     pub node: Node,
 }
 
+// Where a walk over the nodes of a class stands, from the last back in node order: how many nodes are still to come, and an id that has the next of them.
+pub struct Cursor {
+    pub left: usize,
+    pub id: Id,
+}
+
+// Broken are words that no calls could have produced.
+pub enum NodesRead {
+    NodesAt(Cursor),
+    NodesBroken,
+}
+
 // How many words of a list were written into the slice that the caller lends for it.
 pub enum ListAnswer {
     ListWords(usize),
@@ -106,6 +118,12 @@ pub mod class_lists;
 pub use class_lists::classes;
 pub use class_lists::classes_for_op;
 pub use class_lists::total_number_of_nodes;
+
+pub mod class_reads;
+
+pub use class_reads::class_nodes;
+pub use class_reads::previous;
+pub use class_reads::root_node;
 
 pub mod adds;
 

@@ -20,7 +20,7 @@ use language::Op;
 use layout::Head;
 
 // No node, and why.
-fn no_node(why: Refusal) -> NodeAnswer
+pub fn no_node(why: Refusal) -> NodeAnswer
     ensures { λ r. ⌜ NoNode why r ⌝ }
 {
     let out = NodeOut::NodeNot(why);
