@@ -8,11 +8,12 @@ use mathlib.Core.Path.{_∙_, _≡_, ap, refl, sym}
 use Prim.Native.Nat.{_*_, _<_, _≤_, ℕ}
 use native.Mathlib.Omega.{arith}
 use lib.ListN.{length, replicate}
+use Rattle.language.specs.declared.Id.{Id}
 use Rattle.steps.specs.Graph.{Graph, root}
 use Rattle.egraph.specs.Answers.{Answer, Else, Unless-3, head-of, never, nine, no-by, number-of, yes-with}
+use Rattle.egraph.specs.ClassReads.{KidsKnown, clean-held, scratch-clear}
 use Rattle.egraph.specs.declared.Refusal.the-variants.{BrokenWords}
 use Rattle.holds.specs.Holds.{Holds}
-use Rattle.holds.specs.HoldsLaws.{holds-in}
 use Rattle.layout.specs.Cut.{scratch}
 use Rattle.layout.specs.Head.{HeadIs, numbers}
 use Rattle.layout.specs.Idle.{lent-back}
@@ -20,7 +21,6 @@ use Rattle.layout.specs.Lent.{Lent, lent-twice}
 use Rattle.layout.specs.View.{hd, view}
 use Rattle.layout.specs.declared.Head.{Head}
 use Rattle.price.specs.Pass.{Best}
-use Rattle.pricing.specs.Classed.{KidsKnown}
 use Rattle.pricing.specs.Turn.{Scratched}
 use Rattle.extract.specs.Priced.{PricedAs, PricesClass, cost-of, priced-not}
 use Rattle.extract.specs.declared.CostAnswer.{CostAnswer}
@@ -65,9 +65,9 @@ module _ (h : Head) (i : ℕ) (ws ws1 : List ℕ) (p : Priced) (P : PricesClass 
     where
       go : (g : Graph) (o : Option (Best ℕ)) → PricedAs h g i p (view (h .n) (h .m) ws1 .scratch) o → _≡_ {A = Answer} (no-by 9) (price-says o)
       go g none A = refl
-      go g (some b) A = priced-not (root (g .roots) i) (b .price) (sym e ∙ A .0)
+      go g (some b) A = priced-not (record { 0 = root (g .roots) i }) (b .price) (sym e ∙ A .0)
 
-  pub work-done : (c s : ℕ) → p ≡ PricedIs c s → WorksOut h i ws (CostIs s) ws1
+  pub work-done : (c : Id) (s : ℕ) → p ≡ PricedIs c s → WorksOut h i ws (CostIs s) ws1
   work-done c s e = record { only = P .only; fair = λ k q. absurd (never k s q); sound = λ g H l K. go g (cost-of g i) (P .law g H l K) }
     where
       go : (g : Graph) (o : Option (Best ℕ)) → PricedAs h g i p (view (h .n) (h .m) ws1 .scratch) o → _≡_ {A = Answer} (yes-with (s ∷ [])) (price-says o)
@@ -91,10 +91,10 @@ scratch-back z A B = lent-back (lent-twice (λ a b d p u. u) A B) (B .did ∙ sy
 module _ (h : Head) (i : ℕ) (ws : List ℕ) (q : HeadIs (length ws) (hd ws) h) where
   -- a scratch part that is not free: no words that hold a graph have one
   pub cost-blocked : (ScratchClear (h .n) (h .m) ws → ⊥) → CostOpen ws i (CostNot BrokenWords)
-  cost-blocked b = record { fair = nine; sound = λ g H K. absurd (b (holds-in ws h g q H .scratch)) }
+  cost-blocked b = record { fair = nine; sound = λ g H K. absurd (b (scratch-clear ws h g q H)) }
 
   pub cost-worked : h .clean ≡ true → (r : CostAnswer) (ws1 : List ℕ) → WorksOut h i ws r ws1 → CostOpen ws i r
-  cost-worked c r ws1 W = record { fair = W .fair; sound = λ g H K. W .sound g H (sym (holds-in ws h g q H .clean-is) ∙ c) K }
+  cost-worked c r ws1 W = record { fair = W .fair; sound = λ g H K. W .sound g H (sym (clean-held ws h g q H) ∙ c) K }
 
 -- an unknown id, and a known one
 pub far-or-near : (i k : ℕ) → k ≤ i → i < k → ⊥

@@ -12,9 +12,11 @@ use native.Mathlib.Nat.{zero-add}
 use native.Mathlib.Omega.{arith}
 use lib.ListN.{drop, length, take}
 use Rattle.lists.specs.Sets.{sets-after, sets-stand}
+use Rattle.language.specs.declared.Id.{Id}
 use Rattle.steps.specs.Classes.{class-nodes, class-roots}
 use Rattle.steps.specs.Graph.{Graph, root}
 use Rattle.egraph.specs.Answers.{Answer, Else, Unless-3, head-of, never, nine, no-by, number-of, yes-with}
+use Rattle.egraph.specs.ClassReads.{Classed, KidsKnown, classed, classed-lent, classed-listed, clean-held, scratch-clear}
 use Rattle.egraph.specs.declared.Refusal.{Refusal}
 use Rattle.egraph.specs.declared.Refusal.the-variants.{BrokenWords, TooLong}
 use Rattle.eclass.specs.Pieces.{Wrote, pieces}
@@ -24,7 +26,6 @@ use Rattle.forming.specs.Kept.{Kept, cheapest-kept}
 use Rattle.forming.specs.declared.FormLength.{FormLength}
 use Rattle.forming.specs.declared.FormLength.the-variants.{FormLengthBroken, FormLengthIs}
 use Rattle.holds.specs.Holds.{Holds}
-use Rattle.holds.specs.HoldsLaws.{holds-in}
 use Rattle.layout.specs.Cut.{scratch}
 use Rattle.layout.specs.Head.{HeadIs}
 use Rattle.layout.specs.Lent.{Lent, lent-map, lent-twice}
@@ -35,7 +36,6 @@ use Rattle.price.specs.Extract.{listing, table}
 use Rattle.price.specs.Listing.{form-words}
 use Rattle.price.specs.Pass.{Best}
 use Rattle.price.specs.Size.{AstSize}
-use Rattle.pricing.specs.Classed.{Classed, KidsKnown, classed, classed-lent}
 use Rattle.pricing.specs.Entries.{Prices}
 use Rattle.pricing.specs.Laid.{Laid}
 use Rattle.walking.specs.Walk.{FormLaid, ListsForm, Ready}
@@ -133,9 +133,9 @@ module _ (h : Head) (i : ℕ) (ws ws1 : List ℕ) (q : HeadIs (length ws) (hd ws
     where
       go : (g : Graph) (o : Option (Best ℕ)) → PricedAs h g i p (view (h .n) (h .m) ws1 .scratch) o → OutlinedAs h g i OutlineBroken (view (h .n) (h .m) ws1) o
       go g none A = refl
-      go g (some b) A = priced-not (root (g .roots) i) (b .price) (sym e ∙ A .0)
+      go g (some b) A = priced-not (record { 0 = root (g .roots) i }) (b .price) (sym e ∙ A .0)
 
-  module _ (c s : ℕ) (e : p ≡ PricedIs c s) (ws2 : List ℕ) (o : Listed) (L : ListsForm h c ws1 o ws2) where
+  module _ (c : Id) (s : ℕ) (e : p ≡ PricedIs c s) (ws2 : List ℕ) (o : Listed) (L : ListsForm h (c .0) ws1 o ws2) where
     both : InScratch (h .n) (h .m) ws ws2
     both = lent-twice (λ x y z u v. tt) (P .only) (L .only)
 
@@ -143,8 +143,9 @@ module _ (h : Head) (i : ℕ) (ws ws1 : List ℕ) (q : HeadIs (length ws) (hd ws
     laid-out : (g : Graph) → Holds ws g → g .clean ≡ true → KidsKnown g → (b : Best ℕ) → PricedAs h g i p (view (h .n) (h .m) ws1 .scratch) (some b)
         → FormLaid h g (table AstSize g) (listing g (table AstSize g) (root (g .roots) i)) o (view (h .n) (h .m) ws2 .scratch)
     laid-out g H l K b A =
-        let z : c ≡ root (g .roots) i = cc (e, A .0) in
-        let C : Classed h (view (h .n) (h .m) ws1) g = classed-lent (P .only) (classed (holds-in ws h g q H) l K) in
+        let w : c ≡ record { 0 = root (g .roots) i } = cc (e, A .0) in
+        let z : c .0 ≡ root (g .roots) i = ap (λ (x : Id). x .0) w in
+        let C : Classed h (view (h .n) (h .m) ws1) g = classed-lent (P .only) (classed ws h g q H l K) in
         subst (λ (x : ℕ). FormLaid h g (table AstSize g) (listing g (table AstSize g) x) o (view (h .n) (h .m) ws2 .scratch)) z
         (L .law g C (subst (λ (x : ℕ). Ready h g x (view (h .n) (h .m) ws1 .scratch)) (sym z) (A .1)))
 
@@ -172,7 +173,7 @@ module _ (h : Head) (i : ℕ) (ws ws1 : List ℕ) (q : HeadIs (length ws) (hd ws
         go g H l K none u A = priced-not c s (sym A ∙ e)
         go g H l K (some b) u A =
             let F = laid-out g H l K b A in
-            let C : Classed h (view (h .n) (h .m) ws2) g = classed-lent both (classed (holds-in ws h g q H) l K) in
+            let C : Classed h (view (h .n) (h .m) ws2) g = classed-lent both (classed ws h g q H l K) in
             let x : s ≡ b .price = cc (e, A .0) in
             let y : k ≡ length (listing g (table AstSize g) (root (g .roots) i)) = cc (w, F .is) in
             let rs = class-roots g in (
@@ -181,7 +182,7 @@ module _ (h : Head) (i : ℕ) (ws ws1 : List ℕ) (q : HeadIs (length ws) (hd ws
                 classes = C;
                 prices = F .prices;
                 laid = F .laid;
-                kept = cheapest-kept AstSize (class-nodes g) (table AstSize g) (backed AstSize (class-nodes g) rs (length rs)) (ranked AstSize (class-nodes g) rs (length rs)) rs (C .listed) (root (g .roots) i) b u;
+                kept = cheapest-kept AstSize (class-nodes g) (table AstSize g) (backed AstSize (class-nodes g) rs (length rs)) (ranked AstSize (class-nodes g) rs (length rs)) rs (classed-listed C) (root (g .roots) i) b u;
               },
             )
 
@@ -202,21 +203,18 @@ fair-eight : (out : List ℕ) → FormFair out (FormNot TooLong) out
 fair-eight out = record { inside = λ s k e. form-not s k TooLong e; size = refl; refused = λ k e. (inr (sym (ap (λ (a : Answer). a .number) e)), refl) }
 
 module _ (h : Head) (s k : ℕ) (ws out : List ℕ) (few : h .ids ≤ h .n) where
-  abbrev rs : List ℕ
-  rs = view (h .n) (h .m) ws .rows
-
-  abbrev ss : List ℕ
-  ss = view (h .n) (h .m) ws .scratch
+  abbrev v : View
+  v = view (h .n) (h .m) ws
 
   -- what is read of a listing that stands there
-  fine : (g : Graph) (c : ℕ) → FormStands h g c (view (h .n) (h .m) ws) → k ≡ length (listing g (table AstSize g) c) → FineForm rs ss (h .n) (h .m) k
+  fine : (g : Graph) (c : ℕ) → FormStands h g c (view (h .n) (h .m) ws) → k ≡ length (listing g (table AstSize g) c) → FineForm h v k
   fine g c S e = rw e (form-fine h (view (h .n) (h .m) ws) g (table AstSize g) (listing g (table AstSize g) c) few (S .classes) (S .prices) (S .laid) (S .kept))
 
   its-words : (g : Graph) (c : ℕ) → FormStands h g c (view (h .n) (h .m) ws) → k ≡ length (listing g (table AstSize g) c)
-      → pieces (form-piece rs ss (h .n) (h .m)) k ≡ form-words (listing g (table AstSize g) c)
+      → pieces (form-piece h v) k ≡ form-words (listing g (table AstSize g) c)
   its-words g c S e = rw e (form-is h (view (h .n) (h .m) ws) g (table AstSize g) (listing g (table AstSize g) c) few (S .classes) (S .prices) (S .laid) (S .kept))
 
-  module _ (l : FormLength) (M : FormMeasured rs ss (h .n) (h .m) k l) where
+  module _ (l : FormLength) (M : FormMeasured h v k l) where
     pub write-broken : l ≡ FormLengthBroken → WritesOut h s k ws out (FormNot BrokenWords) out
     write-broken e = record { fair = fair-nine out; sound = λ g c S w. absurd (M .broken e (fine g c S w)) }
 
@@ -229,10 +227,10 @@ module _ (h : Head) (s k : ℕ) (ws out : List ℕ) (few : h .ids ≤ h .n) wher
             record { long = λ _. (refl, refl); fits = λ b. absurd (omega arith) };
       }
 
-      pub write-fit : x ≤ length out → length (pieces (form-piece rs ss (h .n) (h .m)) k) ≤ length out
+      pub write-fit : x ≤ length out → length (pieces (form-piece h v) k) ≤ length out
       write-fit le = omega (arith, M .whole x e)
 
-      pub write-done : x ≤ length out → (r : ℕ) (out′ : List ℕ) → Wrote out 0 (pieces (form-piece rs ss (h .n) (h .m)) k) r out′ → WritesOut h s k ws out (FormIs s r) out′
+      pub write-done : x ≤ length out → (r : ℕ) (out′ : List ℕ) → Wrote out 0 (pieces (form-piece h v) k) r out′ → WritesOut h s k ws out (FormIs s r) out′
       write-done le r out′ W = record {
         fair = record {
           inside = λ t j z. let y : j ≡ r = cc in omega (arith, W .next, M .whole x e);
@@ -242,7 +240,7 @@ module _ (h : Head) (s k : ℕ) (ws out : List ℕ) (few : h .ids ≤ h .n) wher
         sound = λ g c S w. stands (form-words (listing g (table AstSize g) c)) (its-words g c S w);
       }
         where
-          stands : (xs : List ℕ) → pieces (form-piece rs ss (h .n) (h .m)) k ≡ xs → FormLists s xs out (FormIs s r) out′
+          stands : (xs : List ℕ) → pieces (form-piece h v) k ≡ xs → FormLists s xs out (FormIs s r) out′
           stands xs q =
               let n : x ≡ length xs = M .whole x e ∙ ap length q in
               let m : r ≡ length xs = omega (arith, W .next, M .whole x e) in
@@ -282,10 +280,10 @@ module _ (h : Head) (i : ℕ) (ws ws1 out : List ℕ) (o : Outline) (L : ListsOu
 module _ (h : Head) (i : ℕ) (ws out : List ℕ) (q : HeadIs (length ws) (hd ws) h) where
   -- a scratch part that is not free: no words that hold a graph have one
   pub form-blocked : (ScratchClear (h .n) (h .m) ws → ⊥) → FormOpen ws i out (FormNot BrokenWords) out
-  form-blocked b = record { fair = fair-nine out; sound = λ g H K. absurd (b (holds-in ws h g q H .scratch)) }
+  form-blocked b = record { fair = fair-nine out; sound = λ g H K. absurd (b (scratch-clear ws h g q H)) }
 
   pub form-worked : h .clean ≡ true → (r : FormAnswer) (ws1 out′ : List ℕ) → FormsOut h i ws out r ws1 out′ → FormOpen ws i out r out′
-  form-worked c r ws1 out′ W = record { fair = W .fair; sound = λ g H K. W .sound g H (sym (holds-in ws h g q H .clean-is) ∙ c) K }
+  form-worked c r ws1 out′ W = record { fair = W .fair; sound = λ g H K. W .sound g H (sym (clean-held ws h g q H) ∙ c) K }
 
 -- refused before the work: an answer is none
 pub no-form : (n : ℕ) (q : Refusal) (s k : ℕ) → FormNot q ≡ FormIs s k → k ≤ n

@@ -8,14 +8,13 @@ ghost use Rattle.layout.specs.Head.{HeadIs};
 ghost use Rattle.layout.specs.View.{hd};
 ghost use Rattle.extract.specs.Priced.{PricesClass};
 ghost use Rattle.extract.specs.Cost.{CostOpen, CostSays, WorksOut};
-use cells::Change;
 use egraph::Refusal;
 use language::Id;
 use layout::Head;
 
 // A class, by its root, and its price; broken are words that no calls could have produced.
 pub enum Priced {
-    PricedIs(usize, u64),
+    PricedIs(Id, u64),
     PricedBroken,
 }
 
@@ -46,18 +45,17 @@ fn price_class(ws: &mut [u32], h: Head, id: Id) -> Priced
     let egraph::FindAnswer::FindRoot(root) = egraph::find(ws, id) else {
         return Priced::PricedBroken;
     };
-    let c = root.0 as usize;
-    if h.ids <= c {
+    if h.ids <= root.0 as usize {
         return Priced::PricedBroken;
     }
-    let Change::ChangeDone = pricing::find_costs(ws, h) else {
+    let pricing::Found::CostsFound = pricing::find_costs(ws, h) else {
         return Priced::PricedBroken;
     };
-    let e = pricing::get_entry(ws, h, c);
+    let e = pricing::get_entry(ws, h, root);
     if e.mark == 0 {
         return Priced::PricedBroken;
     }
-    Priced::PricedIs(c, e.price)
+    Priced::PricedIs(root, e.price)
 }
 
 // The size of the class of an id, from a scratch part that is 0.

@@ -13,13 +13,13 @@ use Rattle.lists.specs.Tests.{zero-one}
 use Rattle.language.specs.Struct.{nodeOf}
 use Rattle.language.specs.Term.{Term, places, spell, words}
 use Rattle.steps.specs.Graph.{Graph, node}
+use Rattle.egraph.specs.ClassReads.{Classed}
 use Rattle.eclass.specs.Pieces.{Wrote, long-more, pieces, pieces-more, pieces-next, pieces-none, pieces-room, wrote}
 use Rattle.layout.specs.View.{View}
 use Rattle.layout.specs.declared.Head.{Head}
 use Rattle.price.specs.Listing.{Listing, form-words, in-order}
 use Rattle.price.specs.Pass.{Table}
 use Rattle.price.specs.Shown.{in-order-length}
-use Rattle.pricing.specs.Classed.{Classed}
 use Rattle.pricing.specs.Entries.{Prices}
 use Rattle.pricing.specs.Laid.{Laid}
 use Rattle.spelling.specs.Listed.{spell-snoc}
@@ -33,27 +33,27 @@ use Rattle.forming.specs.declared.Placed.{Placed}
 use Rattle.forming.specs.declared.Placing.the-variants.{PlacingBroken, PlacingDone}
 
 -- all of the first k places
-abbrev pub FineForm : List ℕ → List ℕ → ℕ → ℕ → ℕ → Type 0
-FineForm rs ss n m k = (p : ℕ) → p < k → FineNode rs ss n m p
+abbrev pub FineForm : Head → View → ℕ → Type 0
+FineForm h v k = (p : ℕ) → p < k → FineNode h v p
 
 -- ---- measured
 
-pub record NodeMeasured (rs ss : List ℕ) (n m p : ℕ) (r : FormLength) : Type 0 where
-  pub whole : (x : ℕ) → r ≡ FormLengthIs x → x ≡ length (form-piece rs ss n m p)
+pub record NodeMeasured (h : Head) (v : View) (p : ℕ) (r : FormLength) : Type 0 where
+  pub whole : (x : ℕ) → r ≡ FormLengthIs x → x ≡ length (form-piece h v p)
   pub few : (x : ℕ) → r ≡ FormLengthIs x → x ≤ 3 + places
-  pub fine : (x : ℕ) → r ≡ FormLengthIs x → FineNode rs ss n m p
-  pub broken : r ≡ FormLengthBroken → FineNode rs ss n m p → ⊥
+  pub fine : (x : ℕ) → r ≡ FormLengthIs x → FineNode h v p
+  pub broken : r ≡ FormLengthBroken → FineNode h v p → ⊥
 
-pub record FormMeasured (rs ss : List ℕ) (n m k : ℕ) (r : FormLength) : Type 0 where
-  pub whole : (x : ℕ) → r ≡ FormLengthIs x → x ≡ length (pieces (form-piece rs ss n m) k)
-  pub fine : (x : ℕ) → r ≡ FormLengthIs x → FineForm rs ss n m k
-  pub broken : r ≡ FormLengthBroken → FineForm rs ss n m k → ⊥
+pub record FormMeasured (h : Head) (v : View) (k : ℕ) (r : FormLength) : Type 0 where
+  pub whole : (x : ℕ) → r ≡ FormLengthIs x → x ≡ length (pieces (form-piece h v) k)
+  pub fine : (x : ℕ) → r ≡ FormLengthIs x → FineForm h v k
+  pub broken : r ≡ FormLengthBroken → FineForm h v k → ⊥
 
 pub broken-is : {A : Type 0} (x : ℕ) → FormLengthBroken ≡ FormLengthIs x → A
 broken-is x e = zero-one cc
 
-module _ (rs ss : List ℕ) (n m p : ℕ) (f : Placed) (N : NodeAt rs ss n m p f) where
-  pub words-broken : f .out ≡ PlacingBroken → NodeMeasured rs ss n m p FormLengthBroken
+module _ (h : Head) (v : View) (p : ℕ) (f : Placed) (N : NodeAt h v p f) where
+  pub words-broken : f .out ≡ PlacingBroken → NodeMeasured h v p FormLengthBroken
   words-broken e = record {
     whole = λ x q. broken-is x q;
     few = λ x q. broken-is x q;
@@ -61,7 +61,7 @@ module _ (rs ss : List ℕ) (n m p : ℕ) (f : Placed) (N : NodeAt rs ss n m p f
     broken = λ _ F. done≢broken (sym (N .done F .0) ∙ e);
   }
 
-  pub words-whole : (x : ℕ) → f .out ≡ PlacingDone → (x ≡ length (words (nodeOf (f .node)))) × (x ≡ 3 + f .node .count) → NodeMeasured rs ss n m p (FormLengthIs x)
+  pub words-whole : (x : ℕ) → f .out ≡ PlacingDone → (x ≡ length (words (nodeOf (f .node)))) × (x ≡ 3 + f .node .count) → NodeMeasured h v p (FormLengthIs x)
   words-whole x e w = record {
     whole = λ y q. let s : y ≡ x = cc in s ∙ rw (← N .done (N .only e) .1) (w .0);
     few = λ y q. let s : y ≡ x = cc in omega (arith, w .1, N .few);
@@ -69,25 +69,25 @@ module _ (rs ss : List ℕ) (n m p : ℕ) (f : Placed) (N : NodeAt rs ss n m p f
     broken = λ q. broken-is x (sym q);
   }
 
-module _ (rs ss : List ℕ) (n m : ℕ) where
-  pub fine-none : FineForm rs ss n m 0
-  fine-none p h = absurd (omega arith)
+module _ (h : Head) (v : View) where
+  pub fine-none : FineForm h v 0
+  fine-none p lt = absurd (omega arith)
 
-  module _ (p : ℕ) (r : FormLength) (M : NodeMeasured rs ss n m p r) where
-    pub measure-more : (total x : ℕ) → r ≡ FormLengthIs x → total ≡ length (pieces (form-piece rs ss n m) p) → total + x ≡ length (pieces (form-piece rs ss n m) (p + 1))
-    measure-more total x e t = long-more (form-piece rs ss n m) p total x t (M .whole x e)
+  module _ (p : ℕ) (r : FormLength) (M : NodeMeasured h v p r) where
+    pub measure-more : (total x : ℕ) → r ≡ FormLengthIs x → total ≡ length (pieces (form-piece h v) p) → total + x ≡ length (pieces (form-piece h v) (p + 1))
+    measure-more total x e t = long-more (form-piece h v) p total x t (M .whole x e)
 
-    pub fine-more : (x : ℕ) → r ≡ FormLengthIs x → FineForm rs ss n m p → FineForm rs ss n m (p + 1)
-    fine-more x e F q h = go (ℕ-discrete q p)
+    pub fine-more : (x : ℕ) → r ≡ FormLengthIs x → FineForm h v p → FineForm h v (p + 1)
+    fine-more x e F q lt = go (ℕ-discrete q p)
       where
-        go : Dec (q ≡ p) → FineNode rs ss n m q
+        go : Dec (q ≡ p) → FineNode h v q
         go (yes i) = rw i (M .fine x e)
         go (no i) = F q (omega arith)
 
-    pub measure-broken : (k : ℕ) → p < k → r ≡ FormLengthBroken → FormMeasured rs ss n m k FormLengthBroken
-    measure-broken k h e = record { whole = λ x q. broken-is x q; fine = λ x q. broken-is x q; broken = λ _ F. M .broken e (F p h) }
+    pub measure-broken : (k : ℕ) → p < k → r ≡ FormLengthBroken → FormMeasured h v k FormLengthBroken
+    measure-broken k lt e = record { whole = λ x q. broken-is x q; fine = λ x q. broken-is x q; broken = λ _ F. M .broken e (F p lt) }
 
-  pub measure-whole : (k p total : ℕ) → p ≡ k → total ≡ length (pieces (form-piece rs ss n m) p) → FineForm rs ss n m p → FormMeasured rs ss n m k (FormLengthIs total)
+  pub measure-whole : (k p total : ℕ) → p ≡ k → total ≡ length (pieces (form-piece h v) p) → FineForm h v p → FormMeasured h v k (FormLengthIs total)
   measure-whole k p total e t F = record {
     whole = λ x q. let s : x ≡ total = cc in s ∙ rw (← e) t;
     fine = λ x q. rw e at F;
@@ -96,16 +96,16 @@ module _ (rs ss : List ℕ) (n m : ℕ) where
 
   -- ---- written
 
-  module _ (p : ℕ) (f : Placed) (N : NodeAt rs ss n m p f) (F : FineNode rs ss n m p) (out mid : List ℕ) (a : ℕ) (W : Wrote out 0 (pieces (form-piece rs ss n m) p) a mid) where
-    piece-is : words (nodeOf (f .node)) ≡ form-piece rs ss n m p
+  module _ (p : ℕ) (f : Placed) (N : NodeAt h v p f) (F : FineNode h v p) (out mid : List ℕ) (a : ℕ) (W : Wrote out 0 (pieces (form-piece h v) p) a mid) where
+    piece-is : words (nodeOf (f .node)) ≡ form-piece h v p
     piece-is = ap words (N .done F .1)
 
-    pub put-room : (k : ℕ) → p < k → length (pieces (form-piece rs ss n m) k) ≤ length out → a + length (words (nodeOf (f .node))) ≤ length mid
-    put-room k h fits = subst (λ (xs : List ℕ). a + length xs ≤ length mid) (sym piece-is) (pieces-room (form-piece rs ss n m) out p a mid W k h fits)
+    pub put-room : (k : ℕ) → p < k → length (pieces (form-piece h v) k) ≤ length out → a + length (words (nodeOf (f .node))) ≤ length mid
+    put-room k lt fits = subst (λ (xs : List ℕ). a + length xs ≤ length mid) (sym piece-is) (pieces-room (form-piece h v) out p a mid W k lt fits)
 
-    pub put-next : (r : ℕ) (out′ : List ℕ) → Puts mid a (f .node) r out′ → Wrote out 0 (pieces (form-piece rs ss n m) (p + 1)) r out′
+    pub put-next : (r : ℕ) (out′ : List ℕ) → Puts mid a (f .node) r out′ → Wrote out 0 (pieces (form-piece h v) (p + 1)) r out′
     put-next r out′ d =
-        pieces-next (form-piece rs ss n m) out p a mid W r out′
+        pieces-next (form-piece h v) out p a mid W r out′
         (rw piece-is at (wrote mid a (words (nodeOf (f .node))) r out′ (d .exact) (d .next)))
 
 -- ---- on words that hold a listing
@@ -132,11 +132,11 @@ module _ (f : ℕ → Term) (ts : List Term) (h : (p : ℕ) → p < length ts �
 
 module _ (h : Head) (v : View) (g : Graph) (t : Table ℕ) (l : Listing) (few : h .ids ≤ h .n) (C : Classed h v g) (P : Prices g (h .n) (v .scratch) t)
     (L : Laid (h .n) (v .scratch) l) (K : Kept t l) where
-  pub form-fine : FineForm (v .rows) (v .scratch) (h .n) (h .m) (length l)
+  pub form-fine : FineForm h v (length l)
   form-fine p lt = node-fine h v g t l few C P L K p lt
 
   -- what is written is the words of the listing
-  pub form-is : pieces (form-piece (v .rows) (v .scratch) (h .n) (h .m)) (length l) ≡ form-words l
+  pub form-is : pieces (form-piece h v) (length l) ≡ form-words l
   form-is =
       let e = in-order-length l in
-      rw (← e) (pieces-spell (form-node (v .rows) (v .scratch) (h .n) (h .m)) (in-order l) (λ p lt. node-is h v g t l few C P L K p (omega arith)))
+      rw (← e) (pieces-spell (form-node h v) (in-order l) (λ p lt. node-is h v g t l few C P L K p (omega arith)))

@@ -1,4 +1,4 @@
--- The node at a place of the listing, as the words say it: the class at the place, the id that its mark names, the key row of that id, with the places of its children.
+-- The node at a place of the listing, as the words say it: the class at the place, the id that its mark names, the node of that id, with the places of its children.
 -- `NodeAt` is what `form_node` promises on any words; on words that hold a clean graph, its prices and a listing by them it is the node of the listing.
 -- Assumes nothing.
 use mathlib.Core.List.{List}
@@ -14,21 +14,19 @@ use Rattle.lists.specs.Tests.{zero-one}
 use Rattle.language.specs.Struct.{nodeOf}
 use Rattle.language.specs.Term.{Term, over-kids, places, term-path, words}
 use Rattle.steps.specs.Graph.{Graph, ids, node}
+use Rattle.egraph.specs.ClassReads.{Classed, Readable, RootNode, classed-kids, classed-node, root-node-in}
+use Rattle.egraph.specs.declared.NodeAnswer.{NodeAnswer}
+use Rattle.egraph.specs.declared.NodeOut.{NodeOut}
+use Rattle.egraph.specs.declared.NodeOut.the-variants.{NodeIs, NodeNot}
+use Rattle.egraph.specs.declared.Refusal.{Refusal}
 use Rattle.layout.specs.Lent.{Loaded}
 use Rattle.layout.specs.View.{View}
 use Rattle.layout.specs.declared.Head.{Head}
 use Rattle.price.specs.Listing.{Listing, in-order, or-zero, spot, spot-of, with-places}
 use Rattle.price.specs.Pass.{Table}
 use Rattle.price.specs.Shown.{in-order-at}
-use Rattle.pricing.specs.Classed.{Classed}
 use Rattle.pricing.specs.Entries.{Names, Prices, joined}
 use Rattle.pricing.specs.Laid.{Laid, class-at, place-word}
-use Rattle.rows.specs.Determined.{read-key, sane}
-use Rattle.rows.specs.Promise.{Key}
-use Rattle.rows.specs.Read.{Sane, key-read, sane-test}
-use Rattle.rows.specs.declared.Fetch.{Fetch}
-use Rattle.rows.specs.declared.Fetch.the-variants.{FetchBroken, FetchDone}
-use Rattle.rows.specs.declared.Fetched.{Fetched}
 use Rattle.forming.specs.Kept.{AtPlace, Kept}
 use Rattle.forming.specs.Placed.{HasPlace, KidsPlaced, NoNode, WithPlaces, not-done, place-at}
 use Rattle.forming.specs.declared.Placed.{Placed}
@@ -40,29 +38,28 @@ use Rattle.forming.specs.declared.Placing.the-variants.{PlacingDone}
 abbrev pub mark-of : List ℕ → ℕ → ℕ → ℕ
 mark-of ss n p = at ss (2 * n + at ss (4 * n + p))
 
--- the row of the id that it names
-abbrev pub row-at : List ℕ → List ℕ → ℕ → ℕ → ℕ → Term
-row-at rs ss n m p = key-read rs n m (mark-of ss n p - 1)
+-- the node of the id that it names
+abbrev pub its-node : Head → View → ℕ → Term
+its-node h v p = root-node-in h v (mark-of (v .scratch) (h .n) p - 1)
 
-unfoldable pub form-node : List ℕ → List ℕ → ℕ → ℕ → ℕ → Term
-form-node rs ss n m p = over-kids (place-at n ss) (row-at rs ss n m p)
+unfoldable pub form-node : Head → View → ℕ → Term
+form-node h v p = over-kids (place-at (h .n) (v .scratch)) (its-node h v p)
 
 -- in words
-abbrev pub form-piece : List ℕ → List ℕ → ℕ → ℕ → ℕ → List ℕ
-form-piece rs ss n m p = words (form-node rs ss n m p)
+abbrev pub form-piece : Head → View → ℕ → List ℕ
+form-piece h v p = words (form-node h v p)
 
 -- nothing leads astray
-pub record FineNode (rs ss : List ℕ) (n m p : ℕ) : Type 0 where
-  pub class-low : at ss (4 * n + p) < n
-  pub marked : 0 < mark-of ss n p
-  pub id-low : mark-of ss n p ≤ n
-  pub row-fine : Sane rs n m (mark-of ss n p - 1)
-  pub kids : KidsPlaced n ss (row-at rs ss n m p)
+pub record FineNode (h : Head) (v : View) (p : ℕ) : Type 0 where
+  pub class-low : at (v .scratch) (4 * h .n + p) < h .n
+  pub marked : 0 < mark-of (v .scratch) (h .n) p
+  pub readable : Readable h v (mark-of (v .scratch) (h .n) p - 1)
+  pub kids : KidsPlaced (h .n) (v .scratch) (its-node h v p)
 
-pub record NodeAt (rs ss : List ℕ) (n m p : ℕ) (r : Placed) : Type 0 where
+pub record NodeAt (h : Head) (v : View) (p : ℕ) (r : Placed) : Type 0 where
   pub few : r .node .count ≤ places
-  pub done : FineNode rs ss n m p → (r .out ≡ PlacingDone) × (nodeOf (r .node) ≡ form-node rs ss n m p)
-  pub only : r .out ≡ PlacingDone → FineNode rs ss n m p
+  pub done : FineNode h v p → (r .out ≡ PlacingDone) × (nodeOf (r .node) ≡ form-node h v p)
+  pub only : r .out ≡ PlacingDone → FineNode h v p
 
 -- ---- the mark
 
@@ -80,55 +77,41 @@ module _ (n : ℕ) (ss : List ℕ) (p c : ℕ) (L : Loaded ss (4 * n + p) c) whe
 
 -- ---- the node
 
-fetched-not : {A : Type 0} → FetchDone ≡ FetchBroken → A
-fetched-not e = zero-one cc
+is≢not : {A : Type 0} {q : Refusal} → NodeIs ≡ NodeNot q → A
+is≢not e = zero-one cc
 
-module _ (rs ss : List ℕ) (n m p w : ℕ) (M : MarkAt n ss p w) where
+module _ (h : Head) (v : View) (p w : ℕ) (M : MarkAt (h .n) (v .scratch) p w) where
   -- the mark that was read, where nothing leads astray
-  its-mark : FineNode rs ss n m p → w ≡ mark-of ss n p
+  its-mark : FineNode h v p → w ≡ mark-of (v .scratch) (h .n) p
   its-mark F = M .is (F .class-low)
 
-  pub node-unmarked : w ≡ 0 → (r : Placed) → NoNode r → NodeAt rs ss n m p r
+  pub node-unmarked : w ≡ 0 → (r : Placed) → NoNode r → NodeAt h v p r
   node-unmarked z r N = record { few = N .few; done = λ F. absurd (omega (arith, its-mark F, F .marked)); only = λ e. not-done r N e }
 
-  module _ (some-mark : w ≢ 0) where
-    pub node-stray : n ≤ w - 1 → (r : Placed) → NoNode r → NodeAt rs ss n m p r
-    node-stray off r N = record { few = N .few; done = λ F. absurd (omega (arith, its-mark F, F .id-low)); only = λ e. not-done r N e }
+  module _ (some-mark : w ≢ 0) (f : NodeAnswer) (K : RootNode h v (w - 1) f) where
+    mark : w ≡ mark-of (v .scratch) (h .n) p
+    mark = M .is (M .class-low some-mark)
 
-    module _ (low : w - 1 < n) (f : Fetched) (K : Key rs n m (w - 1) f) where
-      pub node-unread : (o : Fetch) → o ≡ f .out → o ≡ FetchBroken → (r : Placed) → NoNode r → NodeAt rs ss n m p r
-      node-unread o eo q r N = record {
-        few = N .few;
-        done = λ F. fetched-not (sym (K .done (rw (its-mark F) (F .row-fine))) ∙ (sym eo ∙ q));
-        only = λ e. not-done r N e;
-      }
+    pub node-unread : (o : NodeOut) (k : Refusal) → o ≡ f .out → o ≡ NodeNot k → (r : Placed) → NoNode r → NodeAt h v p r
+    node-unread o k eo q r N = record {
+      few = N .few;
+      done = λ F. is≢not (sym (K .done (rw mark (F .readable)) .0) ∙ (sym eo ∙ q));
+      only = λ e. not-done r N e;
+    }
 
-      pub node-placed : (o : Fetch) → o ≡ f .out → o ≡ FetchDone → (r : Placed) → WithPlaces n ss (nodeOf (f .node)) r → NodeAt rs ss n m p r
-      unfolding form-node
-      node-placed o eo q r W = record {
-        few = W .few;
-        done = λ F. let k = W .done (rw (its) (F .kids)) in (k .0, k .1 ∙ ap (over-kids (place-at n ss)) its);
-        only = λ e. record {
-          class-low = M .class-low some-mark;
-          marked = omega (arith, mark);
-          id-low = omega (arith, mark);
-          row-fine = rw (← mark) fine;
-          kids = rw its at (W .only e);
-        };
-      }
-        where
-          mark : w ≡ mark-of ss n p
-          mark = M .is (M .class-low some-mark)
+    pub node-placed : (o : NodeOut) → o ≡ f .out → o ≡ NodeIs → (r : Placed) → WithPlaces (h .n) (v .scratch) (nodeOf (f .node)) r → NodeAt h v p r
+    unfolding form-node
+    node-placed o eo q r W = record {
+      few = W .few;
+      done = λ F. let k = W .done (rw its (F .kids)) in (k .0, k .1 ∙ ap (over-kids (place-at (h .n) (v .scratch))) its);
+      only = λ e. record { class-low = M .class-low some-mark; marked = omega (arith, mark); readable = rw (← mark) fine; kids = rw its at (W .only e) };
+    }
+      where
+        fine : Readable h v (w - 1)
+        fine = K .only (sym eo ∙ q)
 
-          its : nodeOf (f .node) ≡ row-at rs ss n m p
-          its = K .exact ∙ ap (λ (i : ℕ). key-read rs n m (i - 1)) mark
-
-          fine : Sane rs n m (w - 1)
-          fine = go (sane-test rs n m (w - 1))
-            where
-              go : Dec (Sane rs n m (w - 1)) → Sane rs n m (w - 1)
-              go (yes s) = s
-              go (no s) = fetched-not (sym q ∙ (eo ∙ K .broken s))
+        its : nodeOf (f .node) ≡ its-node h v p
+        its = K .done fine .1 ∙ ap (λ (i : ℕ). root-node-in h v (i - 1)) mark
 
 -- ---- on words that hold a listing
 
@@ -148,20 +131,15 @@ module _ (h : Head) (v : View) (g : Graph) (t : Table ℕ) (l : Listing) (few : 
     named : Names g (at ss (2 * n + class-at p l)) (joined (at ss (2 * class-at p l)) (at ss (2 * class-at p l + 1))) (here .best)
     named = rw (here .chosen) at (P .each (class-at p l) (L .low p hp))
 
-    mark : mark-of ss n p ≡ suc (named .id)
-    mark = ap (λ (c : ℕ). at ss (2 * n + c)) (L .classes p hp) ∙ named .marked
+    marked : mark-of ss n p ≡ suc (named .id)
+    marked = ap (λ (c : ℕ). at ss (2 * n + c)) (L .classes p hp) ∙ named .marked
 
     id-is : mark-of ss n p - 1 ≡ named .id
-    id-is = omega (arith, mark)
+    id-is = omega (arith, marked)
 
-    id-known : named .id < length (g .nodes)
-    id-known = named .known
-
-    -- the row is the chosen node
-    row-is : row-at (v .rows) ss n (h .m) p ≡ here .best .node
-    row-is =
-        ap (λ (i : ℕ). key-read (v .rows) n (h .m) i) id-is
-        ∙ (read-key (v .rows) n (h .m) (g .nodes) (C .keys) (C .rows) (named .id) id-known ∙ (C .tidy-keys (named .id) id-known ∙ named .node-is))
+    -- its node is the chosen node
+    node-read : its-node h v p ≡ here .best .node
+    node-read = ap (λ (i : ℕ). root-node-in h v i) id-is ∙ (classed-node C (named .id) (named .known) .1 ∙ named .node-is)
 
     -- the place word of a child
     place-is : (c : ℕ) → c < n → (q : ℕ) → spot c l ≡ some q → at ss (3 * n + c) ≡ suc q
@@ -169,7 +147,7 @@ module _ (h : Head) (v : View) (g : Graph) (t : Table ℕ) (l : Listing) (few : 
 
     kid-low : (i : ℕ) → i < length (here .best .node .kids) → at (here .best .node .kids) i < n
     kid-low i lt =
-        let k : at (here .best .node .kids) i < h .ids = subst (λ (x : Term). (i : ℕ) → i < length (x .kids) → at (x .kids) i < h .ids) (named .node-is) (C .kids-in (named .id) id-known) i lt in
+        let k : at (here .best .node .kids) i < h .ids = subst (λ (x : Term). (i : ℕ) → i < length (x .kids) → at (x .kids) i < h .ids) (named .node-is) (classed-kids C (named .id) (named .known)) i lt in
         omega arith
 
     kid-placed : (i : ℕ) → i < length (here .best .node .kids) → HasPlace n ss (at (here .best .node .kids) i)
@@ -178,13 +156,12 @@ module _ (h : Head) (v : View) (g : Graph) (t : Table ℕ) (l : Listing) (few : 
         let lo = kid-low i lt in
         (lo, omega (arith, place-is (at (here .best .node .kids) i) lo (s .0) (s .1)))
 
-    pub node-fine : FineNode (v .rows) ss n (h .m) p
+    pub node-fine : FineNode h v p
     node-fine = record {
       class-low = rw (L .classes p hp) (L .low p hp);
-      marked = omega (arith, mark);
-      id-low = omega (arith, mark, named .known, C .ids-are);
-      row-fine = rw id-is (sane (v .rows) n (h .m) (g .nodes) (C .keys) (C .rows) (named .id) id-known);
-      kids = rw row-is kid-placed;
+      marked = omega (arith, marked);
+      readable = rw id-is (classed-node C (named .id) (named .known) .0);
+      kids = rw node-read kid-placed;
     }
 
     same-place : (i : ℕ) → i < length (here .best .node .kids) → place-at n ss (at (here .best .node .kids) i) ≡ spot-of l (at (here .best .node .kids) i)
@@ -195,9 +172,9 @@ module _ (h : Head) (v : View) (g : Graph) (t : Table ℕ) (l : Listing) (few : 
         z ∙ sym (ap or-zero (s .1))
 
     -- it is the node of the listing
-    pub node-is : form-node (v .rows) ss n (h .m) p ≡ node (in-order l) p
+    pub node-is : form-node h v p ≡ node (in-order l) p
     unfolding form-node
     node-is =
-        ap (over-kids (place-at n ss)) row-is
+        ap (over-kids (place-at n ss)) node-read
         ∙ (term-path refl refl (map-at (place-at n ss) (spot-of l) (here .best .node .kids) same-place)
         ∙ sym (in-order-at p l (with-places l (here .best .node)) (here .stands)))

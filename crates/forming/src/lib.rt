@@ -2,11 +2,12 @@
 // caller lends. The words are a clean graph's, with the head h read before, and k classes are listed; only the slice is written. Of the scratch part are read:
 //
 //   words of scratch   what
-//   2n + c             the mark of class c: 1 and the id whose key is its chosen node
+//   2n + c             the mark of class c: 1 and an id that has its chosen node
 //   3n + c             its place in the listing: 1 and the place
 //   4n + p             the class at place p
 //
-// and of the part `rows` the key of an id. On any words a place that leads nowhere makes `measure_form` answer broken; `put_form` asks that there is none.
+// and of the graph, by the promise of `egraph`, the node of an id with root children. On any words a place that leads nowhere makes `measure_form` answer broken;
+// `put_form` asks that there is none.
 ghost use Prim.Native.Nat.{ℕ, _+_, _<_, _≤_};
 ghost use lib.ListN.{length};
 ghost use Rattle.language.specs.Term.{places};
@@ -98,20 +99,16 @@ fn mark_at(ws: &[u32], h: Head, p: usize) -> usize
 fn form_node(ws: &[u32], h: Head, p: usize) -> Placed
     requires { ⌜ HeadOk (length (now ws)) h ⌝ }
     requires { ⌜ p < h .n ⌝ }
-    ensures { λ r. ⌜ NodeAt (view (h .n) (h .m) (now (ws .entry)) .rows) (view (h .n) (h .m) (now (ws .entry)) .scratch) (h .n) (h .m) p r ⌝ }
+    ensures { λ r. ⌜ NodeAt h (view (h .n) (h .m) (now (ws .entry))) p r ⌝ }
 {
     let mark = mark_at(ws, h, p);
     if mark == 0 {
         return no_node();
     }
-    let id = mark - 1;
-    if h.n <= id {
-        return no_node();
-    }
-    let got = parts::on_rows::key(ws, h, Id(id as u32));
+    let got = egraph::root_node(ws, h, Id((mark - 1) as u32));
     let out = got.out;
     let node = got.node;
-    let rows::Fetch::FetchDone = out else {
+    let egraph::NodeOut::NodeIs = out else {
         return no_node();
     };
     with_places(ws, h, node)
@@ -123,7 +120,7 @@ fn form_node(ws: &[u32], h: Head, p: usize) -> Placed
 fn node_words(ws: &[u32], h: Head, p: usize) -> FormLength
     requires { ⌜ HeadOk (length (now ws)) h ⌝ }
     requires { ⌜ p < h .n ⌝ }
-    ensures { λ r. ⌜ NodeMeasured (view (h .n) (h .m) (now (ws .entry)) .rows) (view (h .n) (h .m) (now (ws .entry)) .scratch) (h .n) (h .m) p r ⌝ }
+    ensures { λ r. ⌜ NodeMeasured h (view (h .n) (h .m) (now (ws .entry))) p r ⌝ }
 {
     let f = form_node(ws, h, p);
     let found = f.out;
@@ -137,7 +134,7 @@ fn node_words(ws: &[u32], h: Head, p: usize) -> FormLength
 pub fn measure_form(ws: &[u32], h: Head, k: usize) -> FormLength
     requires { ⌜ HeadOk (length (now ws)) h ⌝ }
     requires { ⌜ k ≤ h .n ⌝ }
-    ensures { λ r. ⌜ FormMeasured (view (h .n) (h .m) (now (ws .entry)) .rows) (view (h .n) (h .m) (now (ws .entry)) .scratch) (h .n) (h .m) k r ⌝ }
+    ensures { λ r. ⌜ FormMeasured h (view (h .n) (h .m) (now (ws .entry))) k r ⌝ }
 {
     let mut total: usize = 0;
     let mut p: usize = 0;
@@ -155,9 +152,9 @@ pub fn measure_form(ws: &[u32], h: Head, k: usize) -> FormLength
 pub fn put_form(ws: &[u32], h: Head, k: usize, out: &mut [u32]) -> usize
     requires { ⌜ HeadOk (length (now ws)) h ⌝ }
     requires { ⌜ k ≤ h .n ⌝ }
-    requires { ⌜ ((p : ℕ) → p < k → FineNode (view (h .n) (h .m) (now ws) .rows) (view (h .n) (h .m) (now ws) .scratch) (h .n) (h .m) p) ⌝ }
-    requires { ⌜ length (pieces (form-piece (view (h .n) (h .m) (now ws) .rows) (view (h .n) (h .m) (now ws) .scratch) (h .n) (h .m)) k) ≤ length (now out) ⌝ }
-    ensures { λ r. ⌜ Wrote (now (out .entry)) 0 (pieces (form-piece (view (h .n) (h .m) (now (ws .entry)) .rows) (view (h .n) (h .m) (now (ws .entry)) .scratch) (h .n) (h .m)) k) r (now (out .exit)) ⌝ }
+    requires { ⌜ ((p : ℕ) → p < k → FineNode h (view (h .n) (h .m) (now ws)) p) ⌝ }
+    requires { ⌜ length (pieces (form-piece h (view (h .n) (h .m) (now ws))) k) ≤ length (now out) ⌝ }
+    ensures { λ r. ⌜ Wrote (now (out .entry)) 0 (pieces (form-piece h (view (h .n) (h .m) (now (ws .entry)))) k) r (now (out .exit)) ⌝ }
 {
     let mut at: usize = 0;
     let mut p: usize = 0;

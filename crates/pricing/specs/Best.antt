@@ -1,7 +1,7 @@
--- The best node of a class by the prices in the scratch part: `choose`, `better` and `class_best` promise what `better` and `best` of Pass (price) say. A list of
--- class nodes is walked from its last id back, so a node that is met is better than what was met before it if its price is no greater.
+-- The best node of a class by the prices in the scratch part: `choose`, `better` and `class_best` promise what `better` and `best` of Pass (price) say. The nodes of
+-- a class are walked from the last back, so a node that is met is better than what was met before it if its price is no greater.
 -- Assumes nothing.
-use mathlib.Core.List.{[], _∷_, map}
+use mathlib.Core.List.{[], _∷_}
 use mathlib.Core.Logic.{_≢_}
 use mathlib.Core.Option.{Option, none, some}
 use mathlib.Core.Path.{_∙_, _≡_, refl, subst, sym}
@@ -10,25 +10,23 @@ use native.Mathlib.Decide.{decLe}
 use native.Mathlib.Omega.{arith}
 use lib.ListN.{drop, length}
 use lib.Seq.{drop-cons, drop-length}
-use Rattle.lists.specs.Members.{mem-at}
-use Rattle.lists.specs.Reads.{at}
 use Rattle.lists.specs.Tests.{when-no, when-yes, zero-one}
 use Rattle.language.specs.Struct.{nodeOf}
 use Rattle.language.specs.Term.{Term}
 use Rattle.steps.specs.Classes.{class-nodes}
 use Rattle.steps.specs.Graph.{Graph, ids, key-of}
-use Rattle.cells.specs.Cursor.{Cursor, cursor-low, cursor-start, cursor-step, length-low}
-use Rattle.cells.specs.Pool.{row}
-use Rattle.cells.specs.Reading.{Word}
+use Rattle.egraph.specs.ClassReads.{ClassNodes, Classed, Known, Previous, RootNode, Stands, classed-kids, stands-few, stands-known, stands-node}
+use Rattle.egraph.specs.declared.Cursor.{Cursor}
+use Rattle.egraph.specs.declared.NodeAnswer.{NodeAnswer}
+use Rattle.egraph.specs.declared.NodeOut.{NodeOut}
+use Rattle.egraph.specs.declared.NodeOut.the-variants.{NodeIs, NodeNot}
+use Rattle.egraph.specs.declared.NodesRead.{NodesRead}
+use Rattle.egraph.specs.declared.NodesRead.the-variants.{NodesAt, NodesBroken}
+use Rattle.egraph.specs.declared.Refusal.{Refusal}
 use Rattle.layout.specs.View.{View}
 use Rattle.layout.specs.declared.Head.{Head}
 use Rattle.price.specs.Pass.{Best, Table, best, better, priced, prices}
 use Rattle.price.specs.Size.{AstSize, cap}
-use Rattle.rows.specs.Promise.{Key}
-use Rattle.rows.specs.declared.Fetch.{Fetch}
-use Rattle.rows.specs.declared.Fetch.the-variants.{FetchBroken, FetchDone}
-use Rattle.rows.specs.declared.Fetched.{Fetched}
-use Rattle.pricing.specs.Classed.{Classed}
 use Rattle.pricing.specs.Entries.{As, Names, Prices}
 use Rattle.pricing.specs.Node.{CostsNode, told}
 use Rattle.pricing.specs.declared.Chosen.{Chosen}
@@ -100,24 +98,20 @@ pub record Betters (h : Head) (id : ℕ) (b : Entry) (v : View) (r : Chosen) : T
 broken-is : {A : Type 0} (e : Entry) → ChosenBroken ≡ ChosenIs e → A
 broken-is e q = zero-one cc
 
-module _ (h : Head) (id : ℕ) (b : Entry) (v : View) (f : Fetched) (F : Key (v .rows) (h .n) (h .m) id f) where
-  -- the key of an id that is there
-  read : (g : Graph) → Classed h v g → id < ids g → (f .out ≡ FetchDone) × (nodeOf (f .node) ≡ key-of g id)
-  read g C lt = let k = F .sound (g .nodes) (C .keys) (C .rows) lt in (k .0, k .1 ∙ C .tidy-keys id lt)
-
-  pub better-unread : (o : Fetch) → o ≡ f .out → o ≡ FetchBroken → Betters h id b v ChosenBroken
-  better-unread o w q = record { low = λ e p. broken-is e p; law = λ g t o C P lt M. absurd (apart (read g C lt .0)) }
+module _ (h : Head) (id : ℕ) (b : Entry) (v : View) (f : NodeAnswer) (F : RootNode h v id f) where
+  pub better-unread : (o : NodeOut) (k : Refusal) → o ≡ f .out → o ≡ NodeNot k → Betters h id b v ChosenBroken
+  better-unread o k w q = record { low = λ e p. broken-is e p; law = λ g t o C P lt M. absurd (apart (F .sound g C lt .0)) }
     where
-      apart : f .out ≡ FetchDone → ⊥
-      apart d = zero-one cc
+      apart : f .out ≡ NodeIs → ⊥
+      apart d = zero-one (cc (sym d ∙ (sym w ∙ q)))
 
   module _ (c : NodeCost) (N : CostsNode (h .n) (h .ids) (v .scratch) (nodeOf (f .node)) c) where
     -- the price of the node, as the table gives it
     costs : (g : Graph) (t : Table ℕ) → Classed h v g → Prices g (h .n) (v .scratch) t → id < ids g
         → c ≡ told (priced AstSize (key-of g id) (prices t (key-of g id .kids)))
     costs g t C P lt =
-        let e = read g C lt .1 in
-        subst (λ (x : Term). c ≡ told (priced AstSize x (prices t (x .kids)))) e (N .law g t P (rw e (C .kids-in id lt)))
+        let e = F .sound g C lt .1 in
+        subst (λ (x : Term). c ≡ told (priced AstSize x (prices t (x .kids)))) e (N .law g t P (rw e (classed-kids C id lt)))
 
     pub better-broken : c ≡ NodeCostBroken → Betters h id b v ChosenBroken
     better-broken q = record {
@@ -157,74 +151,59 @@ pub record BestOf (h : Head) (a : ℕ) (v : View) (r : Chosen) : Type 0 where
   pub law : (g : Graph) (t : Table ℕ) → Classed h v g → Prices g (h .n) (v .scratch) t
       → (e : Entry) × (r ≡ ChosenIs e) × Means g e (best AstSize t (class-nodes g a))
 
--- on its way back: `left` ids of list a are still to come, the next is cur, and b is the best of those behind
-pub record Walking (h : Head) (a : ℕ) (v : View) (left cur : ℕ) (b : Entry) : Type 0 where
+-- on its way back from the cursor `from`: of the class that `from` was at the end of, the nodes from the place of `cur` on are behind, and b is the best of them
+pub record Walking (h : Head) (v : View) (from cur : Cursor) (b : Entry) : Type 0 where
   pub low : b .mark ≤ h .n
-  pub cursor : Cursor (v .members) (h .n) (h .n) a left cur
-  pub law : (g : Graph) (t : Table ℕ) (C : Classed h v g) → Prices g (h .n) (v .scratch) t
-      → Means g b (best AstSize t (map (key-of g) (drop left (row (C .lists) a))))
+  pub known : Known h cur
+  pub stands : (a : ℕ) → Stands h v a from → Stands h v a cur
+  pub law : (a : ℕ) → Stands h v a from → (g : Graph) (t : Table ℕ) → Classed h v g → Prices g (h .n) (v .scratch) t → from .left ≡ length (class-nodes g a)
+      → Means g b (best AstSize t (drop (cur .left) (class-nodes g a)))
 
-module _ (h : Head) (a : ℕ) (v : View) (ha : a < h .n) where
-  pub walk-long : (k : ℕ) → Word (v .members) (a + h .n + h .n) k → h .n < k → BestOf h a v ChosenBroken
-  walk-long k w l = record {
-    low = λ e p. broken-is e p;
-    law = λ g t C P. absurd (length-low (v .members) (h .n) (h .n) a ha (rw (← w .exact) l) (C .lists) (C .pool));
-  }
-
-  pub walk-start : (k cur : ℕ) → Word (v .members) (a + h .n + h .n) k → Word (v .members) a cur → Walking h a v k cur (record { mark = 0; price = 0 })
+module _ (h : Head) (v : View) (from : Cursor) where
+  pub walk-start : Known h from → Walking h v from from (record { mark = 0; price = 0 })
   unfolding best
-  walk-start k cur w l = record {
-    low = omega arith;
-    cursor = rw (w .exact, l .exact) (cursor-start (v .members) (h .n) (h .n) a ha);
-    law = λ g t C P. let e : drop k (row (C .lists) a) ≡ [] = rw (w .exact, C .pool .rows a ha .size) (drop-length (row (C .lists) a)) in rw e refl;
-  }
+  walk-start k = record { low = omega arith; known = k; stands = λ a S. S; law = λ a S g t C P e. rw (e, drop-length (class-nodes g a)) refl }
 
-  module _ (left cur : ℕ) (b : Entry) (W : Walking h a v left cur b) (some : 0 < left) where
-    pub walk-stray : h .n ≤ cur → BestOf h a v ChosenBroken
-    walk-stray off = record {
-      low = λ e p. broken-is e p;
-      law = λ g t C P. absurd (omega (arith, cursor-low (v .members) (h .n) (h .n) a ha left cur (W .cursor) some (C .lists) (C .pool)));
+  module _ (cur : Cursor) (b : Entry) (W : Walking h v from cur b) (left : 0 < cur .left) (r : Chosen) (B : Betters h (cur .id .0) b v r) where
+    -- the node at the cursor is looked at
+    looked : (a : ℕ) → Stands h v a from → (g : Graph) (t : Table ℕ) → Classed h v g → Prices g (h .n) (v .scratch) t → from .left ≡ length (class-nodes g a)
+        → (e : Entry) × (r ≡ ChosenIs e) × Means g e (best AstSize t (drop (cur .left - 1) (class-nodes g a)))
+    unfolding best
+    looked a F g t C P l =
+        let S = W .stands a F in
+        let s : suc (cur .left - 1) ≡ cur .left = omega arith in
+        let d : drop (cur .left - 1) (class-nodes g a) ≡ key-of g (cur .id .0) ∷ drop (cur .left) (class-nodes g a) =
+        drop-cons (class-nodes g a) (cur .left - 1) (record { op = 0; payload = 0; kids = [] }) (omega (arith, stands-few C a cur S)) ∙ rw (s, stands-node C a cur S (cur .left - 1) s) refl in
+        rw d (B .law g t (best AstSize t (drop (cur .left) (class-nodes g a))) C P (stands-known C a cur S (cur .left - 1) s) (W .law a F g t C P l))
+
+    pub walk-more : (o : NodesRead) → Previous h v cur o → (e : Entry) (to : Cursor) → r ≡ ChosenIs e → o ≡ NodesAt to → Walking h v from to e
+    walk-more o O e to q p = record {
+      low = B .low e q;
+      known = O .known to p;
+      stands = λ a S. O .stands to p a (W .stands a S);
+      law = λ a S g t C P l. let k = looked a S g t C P l in let z : e ≡ k .0 = cc (q, k .1) in rw (O .fewer to p, z) (k .2);
     }
 
-    -- cur is an id of the list
-    met : (g : Graph) (C : Classed h v g) → (cur ≡ at (row (C .lists) a) (left - 1)) × (left ≤ length (row (C .lists) a)) × (cur < ids g)
-    met g C =
-        let e = W .cursor .cell (C .lists) (C .pool) (left - 1) (omega arith) in
-        let l = W .cursor .short (C .lists) (C .pool) in
-        (e, l, rw e (C .in-ids a (at (row (C .lists) a) (left - 1)) (mem-at (row (C .lists) a) (left - 1) (omega arith))))
+-- the walk that `class_nodes` starts
+module _ (h : Head) (a : ℕ) (v : View) (r : NodesRead) (N : ClassNodes h v a r) where
+  pub best-unread : r ≡ NodesBroken → BestOf h a v ChosenBroken
+  best-unread q = record { low = λ e p. broken-is e p; law = λ g t C P. absurd (N .sound q g C) }
 
-    module _ (r : Chosen) (B : Betters h cur b v r) where
-      pub walk-broken : r ≡ ChosenBroken → BestOf h a v ChosenBroken
-      walk-broken q = record {
-        low = λ e p. broken-is e p;
-        law = λ g t C P. let k = B .law g t (best AstSize t (map (key-of g) (drop left (row (C .lists) a)))) C P (met g C .2) (W .law g t C P) in absurd (broken-is (k .0) (sym q ∙ k .1));
-      }
+  module _ (from : Cursor) (is : r ≡ NodesAt from) (cur : Cursor) (b : Entry) (W : Walking h v from cur b) where
+    stood : Stands h v a from
+    stood = N .stands from is
 
-      pub walk-more : (e : Entry) (w : ℕ) → r ≡ ChosenIs e → Word (v .members) (h .n + h .n + h .n + cur) w → Walking h a v (left - 1) w e
-      unfolding best
-      walk-more e w q x = record {
-        low = B .low e q;
-        cursor = rw (x .exact) (cursor-step (v .members) (h .n) (h .n) a ha left cur (W .cursor) some);
-        law = λ g t C P. one g t C P (met g C);
-      }
-        where
-          one : (g : Graph) (t : Table ℕ) (C : Classed h v g) → Prices g (h .n) (v .scratch) t
-              → (cur ≡ at (row (C .lists) a) (left - 1)) × (left ≤ length (row (C .lists) a)) × (cur < ids g)
-              → Means g e (best AstSize t (map (key-of g) (drop (left - 1) (row (C .lists) a))))
-          one g t C P (i, l, lt) =
-              let k = B .law g t (best AstSize t (map (key-of g) (drop left (row (C .lists) a)))) C P lt (W .law g t C P) in
-              let z : e ≡ k .0 = cc (q, k .1) in
-              let s : suc (left - 1) ≡ left = omega arith in
-              let d : drop (left - 1) (row (C .lists) a) ≡ cur ∷ drop left (row (C .lists) a) =
-              drop-cons (row (C .lists) a) (left - 1) 0 (omega arith) ∙ rw (s, i) refl in
-              rw (d, z) (k .2)
+    pub best-broken : 0 < cur .left → (o : Chosen) → Betters h (cur .id .0) b v o → o ≡ ChosenBroken → BestOf h a v ChosenBroken
+    best-broken l o B q = record {
+      low = λ e p. broken-is e p;
+      law = λ g t C P. let k = looked h v from cur b W l o B a stood g t C P (N .all from is g C) in absurd (broken-is (k .0) (sym q ∙ k .1));
+    }
 
-  pub walk-all : (left cur : ℕ) (b : Entry) → Walking h a v left cur b → left ≡ 0 → BestOf h a v (ChosenIs b)
-  walk-all left cur b W z = record {
-    low = λ e p. let q : b ≡ e = cc in rw (← q) (W .low);
-    law = λ g t C P. (b, refl, whole g t C (W .law g t C P));
-  }
-    where
-      whole : (g : Graph) (t : Table ℕ) (C : Classed h v g) → Means g b (best AstSize t (map (key-of g) (drop left (row (C .lists) a))))
-          → Means g b (best AstSize t (class-nodes g a))
-      whole g t C M = rw (← C .tidy-lists a) (rw z at M)
+    pub best-lost : (o : NodesRead) → Previous h v cur o → o ≡ NodesBroken → BestOf h a v ChosenBroken
+    best-lost o O q = record { low = λ e p. broken-is e p; law = λ g t C P. absurd (O .sound q a (W .stands a stood) g C) }
+
+    pub best-all : cur .left ≡ 0 → BestOf h a v (ChosenIs b)
+    best-all z = record {
+      low = λ e p. let q : b ≡ e = cc in rw (← q) (W .low);
+      law = λ g t C P. (b, refl, rw z at (W .law a stood g t C P (N .all from is g C)));
+    }

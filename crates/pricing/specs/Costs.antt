@@ -1,39 +1,43 @@
 -- The passes until one takes nothing: `find_costs` promises that the scratch part then holds the table in the end (`table AstSize g` of price), and that it never runs
 -- out of rounds on words that hold a clean graph.
 -- Assumes nothing.
+use mathlib.Core.Bool.{true}
 use mathlib.Core.List.{List, []}
 use mathlib.Core.Logic.{_≢_, _⊎_, inl, inr}
 use mathlib.Core.Path.{_∙_, _≡_, ap, refl, sym}
-use Prim.Native.Nat.{_+_, _<_, _≤_, suc, ℕ}
+use Prim.Native.Nat.{_*_, _+_, _<_, _≤_, suc, ℕ}
 use native.Mathlib.Decide.{ℕ-discrete}
 use native.Mathlib.Omega.{arith}
 use lib.ListN.{length}
 use Rattle.lists.specs.Keeps.{length-filter, length-upto, upto}
-use Rattle.steps.specs.Classes.{class-nodes, class-roots}
+use Rattle.steps.specs.Classes.{class-nodes, class-roots, total-number-of-nodes}
 use Rattle.steps.specs.Graph.{Graph, ids, root}
-use Rattle.cells.specs.declared.Change.{Change}
-use Rattle.cells.specs.declared.Change.the-variants.{ChangeBroken, ChangeDone}
-use Rattle.eclass.specs.Checks.{Totals}
-use Rattle.eclass.specs.declared.Total.{Total}
-use Rattle.eclass.specs.declared.Total.the-variants.{TotalBroken}
+use Rattle.egraph.specs.Answers.{count-says, never, number-of}
+use Rattle.egraph.specs.ClassLists.{TotalSays, total-held}
+use Rattle.egraph.specs.ClassReads.{Classed, KidsKnown, classed, classed-ids, classed-lent, classed-listed, scratch-clear}
+use Rattle.egraph.specs.declared.CountAnswer.{CountAnswer}
+use Rattle.egraph.specs.declared.CountAnswer.the-variants.{CountNot}
+use Rattle.egraph.specs.declared.Refusal.{Refusal}
+use Rattle.holds.specs.Holds.{Holds}
+use Rattle.layout.specs.Head.{HeadIs}
 use Rattle.layout.specs.Idle.{lent-same}
-use Rattle.layout.specs.View.{View, view}
+use Rattle.layout.specs.View.{View, hd, view}
 use Rattle.layout.specs.declared.Head.{Head}
 use Rattle.price.specs.Ends.{end-in-time, pass-grows}
 use Rattle.price.specs.Extract.{table}
 use Rattle.price.specs.Pass.{Passes as Run, Table, done, more, pass}
 use Rattle.price.specs.Size.{AstSize}
-use Rattle.pricing.specs.Classed.{Classed, classed-lent}
-use Rattle.pricing.specs.Entries.{Prices}
+use Rattle.pricing.specs.Entries.{Prices, prices-none}
 use Rattle.pricing.specs.Pass.{Passes}
 use Rattle.pricing.specs.Turn.{Scratched, Took, scratched-then, taken-broken}
+use Rattle.pricing.specs.declared.Found.{Found}
+use Rattle.pricing.specs.declared.Found.the-variants.{CostsBroken, CostsFound}
 use Rattle.pricing.specs.declared.Taken.{Taken}
 use Rattle.pricing.specs.declared.Taken.the-variants.{TakenBroken, TakenIs}
 
-pub record FindsCosts (h : Head) (ws : List ℕ) (r : Change) (ws′ : List ℕ) : Type 0 where
+pub record FindsCosts (h : Head) (ws : List ℕ) (r : Found) (ws′ : List ℕ) : Type 0 where
   pub only : Scratched (h .n) (h .m) ws ws′
-  pub law : (g : Graph) → Classed h (view (h .n) (h .m) ws) g → Prices g (h .n) (view (h .n) (h .m) ws .scratch) []
-      → (r ≡ ChangeDone) × Prices g (h .n) (view (h .n) (h .m) ws′ .scratch) (table AstSize g)
+  pub law : (g : Graph) → Holds ws g → g .clean ≡ true → KidsKnown g → (r ≡ CostsFound) × Prices g (h .n) (view (h .n) (h .m) ws′ .scratch) (table AstSize g)
 
 -- the scratch words ss hold a table from which the passes still run `left` times, i of them being done
 pub record On-way (g : Graph) (n i : ℕ) (ss : List ℕ) : Type 0 where
@@ -45,16 +49,21 @@ pub record On-way (g : Graph) (n i : ℕ) (ss : List ℕ) : Type 0 where
 
 pub record Finding (h : Head) (i : ℕ) (ws ws′ : List ℕ) : Type 0 where
   pub only : Scratched (h .n) (h .m) ws ws′
-  pub law : (g : Graph) → Classed h (view (h .n) (h .m) ws) g → Prices g (h .n) (view (h .n) (h .m) ws .scratch) []
-      → On-way g (h .n) i (view (h .n) (h .m) ws′ .scratch)
+  pub law : (g : Graph) → Holds ws g → g .clean ≡ true → KidsKnown g → On-way g (h .n) i (view (h .n) (h .m) ws′ .scratch)
 
-module _ (h : Head) (ws : List ℕ) where
-  -- more nodes than ids: no graph's words
-  pub costs-long : (r : Total) → Totals (view (h .n) (h .m) ws .members) (h .n) (h .ids) r → r ≡ TotalBroken → FindsCosts h ws ChangeBroken ws
-  costs-long r T e = record { only = lent-same ws (λ i l. refl); law = λ g C P. absurd (omega (arith, T .broken e, C .few)) }
+module _ (h : Head) (ws : List ℕ) (q : HeadIs (length ws) (hd ws) h) where
+  -- the number of nodes is refused: no clean graph's words
+  pub costs-long : (r : CountAnswer) → TotalSays ws r → (k : Refusal) → r ≡ CountNot k → FindsCosts h ws CostsBroken ws
+  costs-long r T k e = record {
+    only = lent-same ws (λ i l. refl);
+    law = λ g H c K. absurd (never (number-of k) (total-number-of-nodes g) (sym (total-held ws g H r T .on c) ∙ ap count-says e));
+  }
 
   pub finding-start : Finding h 0 ws ws
-  finding-start = record { only = lent-same ws (λ i l. refl); law = λ g C P. first g P (end-in-time AstSize (class-nodes g) (class-roots g) (C .listed)) }
+  finding-start = record {
+    only = lent-same ws (λ i l. refl);
+    law = λ g H c K. first g (rw (scratch-clear ws h g q H) (prices-none g (h .n) (6 * h .n))) (end-in-time AstSize (class-nodes g) (class-roots g) (classed-listed (classed ws h g q H c K)));
+  }
     where
       first : (g : Graph) → Prices g (h .n) (view (h .n) (h .m) ws .scratch) []
           → (n : ℕ) × (n ≤ suc (length (class-roots g))) × Run AstSize (class-nodes g) (class-roots g) n [] (table AstSize g)
@@ -69,21 +78,21 @@ module _ (h : Head) (ws : List ℕ) where
 
   module _ (i : ℕ) (ws1 ws2 : List ℕ) (A : Finding h i ws ws1) (r : Taken) (B : Passes h ws1 r ws2) where
     -- the next pass, on the way to the table of g
-    took : (g : Graph) → Classed h (view (h .n) (h .m) ws) g → (W : On-way g (h .n) i (view (h .n) (h .m) ws1 .scratch))
+    took : (g : Graph) → Holds ws g → g .clean ≡ true → KidsKnown g → (W : On-way g (h .n) i (view (h .n) (h .m) ws1 .scratch))
         → Took g (h .n) (view (h .n) (h .m) ws2 .scratch) (W .now) (pass AstSize (class-nodes g) (class-roots g) (W .now)) r
-    took g C W = B .law g (W .now) (classed-lent (A .only) C) (W .prices)
+    took g H c K W = B .law g (W .now) (classed-lent (A .only) (classed ws h g q H c K)) (W .prices)
 
-    pub costs-broken : r ≡ TakenBroken → FindsCosts h ws ChangeBroken ws2
+    pub costs-broken : r ≡ TakenBroken → FindsCosts h ws CostsBroken ws2
     costs-broken e = record {
       only = scratched-then (A .only) (B .only);
-      law = λ g C P. let T = took g C (A .law g C P) in taken-broken (T .count) (sym e ∙ T .is);
+      law = λ g H c K. let T = took g H c K (A .law g H c K) in taken-broken (T .count) (sym e ∙ T .is);
     }
 
     -- nothing taken: the table is as it was, and the passes end there
-    pub costs-done : (k : ℕ) → r ≡ TakenIs k → k ≡ 0 → FindsCosts h ws ChangeDone ws2
+    pub costs-done : (k : ℕ) → r ≡ TakenIs k → k ≡ 0 → FindsCosts h ws CostsFound ws2
     costs-done k e z = record {
       only = scratched-then (A .only) (B .only);
-      law = λ g C P. (refl, last g (A .law g C P) (took g C (A .law g C P)));
+      law = λ g H c K. (refl, last g (A .law g H c K) (took g H c K (A .law g H c K)));
     }
       where
         same : (g : Graph) (t : Table ℕ) → length (pass AstSize (class-nodes g) (class-roots g) t) ≡ length t
@@ -106,7 +115,7 @@ module _ (h : Head) (ws : List ℕ) where
     pub finding-more : (k : ℕ) → r ≡ TakenIs k → k ≢ 0 → Finding h (i + 1) ws ws2
     finding-more k e n = record {
       only = scratched-then (A .only) (B .only);
-      law = λ g C P. let W = A .law g C P in next g (W .now) (W .left) (W .bound) (W .run) (took g C W);
+      law = λ g H c K. let W = A .law g H c K in next g (W .now) (W .left) (W .bound) (W .run) (took g H c K W);
     }
       where
         next : (g : Graph) (t : Table ℕ) (left : ℕ) → left + i ≤ suc (ids g) → Run AstSize (class-nodes g) (class-roots g) left t (table AstSize g)
@@ -128,8 +137,8 @@ module _ (h : Head) (ws : List ℕ) where
             }
 
   -- no rounds left: not on words that hold a clean graph
-  pub costs-out : (i : ℕ) (ws′ : List ℕ) → h .ids < i → Finding h i ws ws′ → FindsCosts h ws ChangeBroken ws′
-  costs-out i ws′ l A = record { only = A .only; law = λ g C P. let W = A .law g C P in absurd (some g (W .run) (omega (arith, W .bound, C .ids-are))) }
+  pub costs-out : (i : ℕ) (ws′ : List ℕ) → h .ids < i → Finding h i ws ws′ → FindsCosts h ws CostsBroken ws′
+  costs-out i ws′ l A = record { only = A .only; law = λ g H c K. let W = A .law g H c K in absurd (some g (W .run) (omega (arith, W .bound, classed-ids (classed ws h g q H c K)))) }
     where
       some : (g : Graph) {n : ℕ} {t u : Table ℕ} → Run AstSize (class-nodes g) (class-roots g) n t u → n ≤ 0 → ⊥
       some g (done q) z = omega arith

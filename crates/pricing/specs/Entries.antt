@@ -1,4 +1,4 @@
--- Prices in the scratch part: of each class its price, in two words, and its mark, which is 0 for none and else 1 and an id whose key is the node that earned the price.
+-- Prices in the scratch part: of each class its price, in two words, and its mark, which is 0 for none and else 1 and an id that has the node that earned the price.
 -- `Prices` says that the words are a table of prices, as the passes of document 01 make it (Pass of price): of each class they keep what was taken last.
 -- Assumes nothing.
 use mathlib.Core.List.{List, [], _∷_}
@@ -24,7 +24,7 @@ joined low high = low + high * 4294967296
 
 -- ---- what a mark and a price say of a class of the graph g
 
--- the price and the node of b, which is the key of an id
+-- the price and the node of b, which an id has
 pub record Names (g : Graph) (mark price : ℕ) (b : Best ℕ) : Type 0 where
   pub id : ℕ
   pub marked : mark ≡ suc id
@@ -44,6 +44,7 @@ pub record Prices (g : Graph) (n : ℕ) (ss : List ℕ) (t : Table ℕ) : Type 0
 -- ---- an entry read, and an entry written
 
 pub record EntryAt (n : ℕ) (ss : List ℕ) (c : ℕ) (e : Entry) : Type 0 where
+  pub small : e .mark < 2 ^ 32
   pub mark-is : e .mark ≡ at ss (2 * n + c)
   pub price-is : e .price ≡ joined (at ss (2 * c)) (at ss (2 * c + 1))
 

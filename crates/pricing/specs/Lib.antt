@@ -1,7 +1,6 @@
 pub mod Entries
 pub mod Laid
 pub mod Node
-pub mod Classed
 pub mod Best
 pub mod Turn
 pub mod Pass

@@ -13,6 +13,7 @@ use lib.Seq.{drop-cons, drop-length}
 use Rattle.lists.specs.Reads.{at}
 use Rattle.language.specs.Term.{Term}
 use Rattle.steps.specs.Graph.{Graph}
+use Rattle.egraph.specs.ClassReads.{KidsIn}
 use Rattle.price.specs.Adding.{add-on}
 use Rattle.price.specs.Pass.{Best, Table, look, priced, prices, with-price}
 use Rattle.price.specs.Size.{AstSize, Capped, cap}
@@ -25,10 +26,6 @@ use Rattle.pricing.specs.declared.NodeCost.the-variants.{NodeCostBroken,
 abbrev pub told : Option ℕ → NodeCost
 told none = NodeCostNone
 told (some p) = NodeCostIs p
-
--- each child is below N
-abbrev pub KidsIn : ℕ → Term → Type 0
-KidsIn N x = (i : ℕ) → i < length (x .kids) → at (x .kids) i < N
 
 -- what `node_total_cost` promises
 pub record CostsNode (n N : ℕ) (ss : List ℕ) (x : Term) (r : NodeCost) : Type 0 where

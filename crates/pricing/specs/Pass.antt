@@ -1,5 +1,5 @@
--- A pass over the classes in ascending root id: `pass` promises what `pass` of Pass (price) says. The code gives every id its turn; the list of an id that is no root
--- is empty, so its turn takes nothing, and the pass over all ids is the pass over the roots.
+-- A pass over the classes in ascending root id: `pass` promises what `pass` of Pass (price) says. The code gives every id its turn; an id that is no root has no nodes,
+-- so its turn takes nothing, and the pass over all ids is the pass over the roots.
 -- Assumes nothing.
 use mathlib.Core.List.{List, [], _++_, _∷_, filter}
 use mathlib.Core.Logic.{ite}
@@ -15,12 +15,12 @@ use Rattle.language.specs.Term.{Term}
 use Rattle.steps.specs.Classes.{class-nodes, class-roots}
 use Rattle.steps.specs.Graph.{Graph, ids, root}
 use Rattle.closure.specs.Listed.{roots-from}
+use Rattle.egraph.specs.ClassReads.{Classed, classed-ids, classed-lent, classed-listed}
 use Rattle.layout.specs.Idle.{lent-same}
 use Rattle.layout.specs.View.{View, view}
 use Rattle.layout.specs.declared.Head.{Head}
 use Rattle.price.specs.Pass.{Table, accept, best, pass, turn}
 use Rattle.price.specs.Size.{AstSize}
-use Rattle.pricing.specs.Classed.{Classed, classed-lent}
 use Rattle.pricing.specs.Entries.{Prices}
 use Rattle.pricing.specs.Turn.{Scratched, Took, Turns, scratched-then, taken-broken}
 use Rattle.pricing.specs.declared.Taken.{Taken}
@@ -60,7 +60,7 @@ module _ (nodes : ℕ → List Term) where
 pub pass-all : {h : Head} {v : View} (g : Graph) → Classed h v g → (t : Table ℕ) → pass AstSize (class-nodes g) (class-roots g) t ≡ pass AstSize (class-nodes g) (upto (ids g)) t
 pass-all g C t =
     pass-filter (class-nodes g) (λ (i : ℕ). ℕ-discrete (root (g .roots) i) i)
-    (λ r n. no-member (class-nodes g r) (λ x m. n (roots-from g r (C .listed r x m) .1))) (upto (ids g)) t
+    (λ r n. no-member (class-nodes g r) (λ x m. n (roots-from g r (classed-listed C r x m) .1))) (upto (ids g)) t
 
 -- ---- the loop
 
@@ -111,5 +111,5 @@ module _ (h : Head) (ws : List ℕ) where
   pub pass-done : (i k : ℕ) (ws′ : List ℕ) → i ≡ h .ids → Passing h i k ws ws′ → Passes h ws (TakenIs k) ws′
   pass-done i k ws′ e A = record {
     only = A .only;
-    law = λ g t C P. let q : i ≡ ids g = e ∙ C .ids-are in rw (pass-all g C t, ← q) (A .law g t C P);
+    law = λ g t C P. let q : i ≡ ids g = e ∙ classed-ids C in rw (pass-all g C t, ← q) (A .law g t C P);
   }

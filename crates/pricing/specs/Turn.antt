@@ -15,6 +15,7 @@ use Rattle.lists.specs.Stores.{puts-miss}
 use Rattle.lists.specs.Tests.{when-no, when-yes, zero-one}
 use Rattle.steps.specs.Classes.{class-nodes}
 use Rattle.steps.specs.Graph.{Graph}
+use Rattle.egraph.specs.ClassReads.{Classed}
 use Rattle.layout.specs.Cut.{need, scratch}
 use Rattle.layout.specs.Idle.{lent-same}
 use Rattle.layout.specs.Lent.{Lent, lent-map, lent-twice}
@@ -23,7 +24,6 @@ use Rattle.layout.specs.declared.Head.{Head}
 use Rattle.price.specs.Pass.{Best, Table, accept, best, look, turn}
 use Rattle.price.specs.Size.{AstSize, cap}
 use Rattle.pricing.specs.Best.{BestOf, Means, more, no-more}
-use Rattle.pricing.specs.Classed.{Classed}
 use Rattle.pricing.specs.Entries.{EntryAt, Keeps, Names, Prices, entry-as, prices-more, stores}
 use Rattle.pricing.specs.declared.Chosen.{Chosen}
 use Rattle.pricing.specs.declared.Chosen.the-variants.{ChosenBroken, ChosenIs}

@@ -3,20 +3,20 @@
 //
 //   words of scratch   what
 //   2c, 2c + 1         the price of class c, low half and high half
-//   2n + c             its mark: 0 where class c has no price yet, else 1 and the id whose key is the node that earned it
+//   2n + c             its mark: 0 where class c has no price yet, else 1 and an id that has the node that earned it
 //   3n to 6n - 1       not used here
 //
-// Of the graph are read, through the promises of `parts`: the ids of a class's nodes, from the last one back, and the key of each. The lists of ids that are no roots
-// are empty, so that a pass runs over all ids.
+// Of the graph are read, by the promises of `egraph`: the nodes of a class, from the last one back, and the node of an id with root children. An id that is no root has
+// no nodes, so that a pass runs over all ids.
 ghost use mathlib.Core.Path.{_≡_};
 ghost use Prim.Native.Nat.{_+_, _<_, _≤_, _^_, min};
 ghost use lib.ListN.{length};
 ghost use Rattle.language.specs.Term.{places};
 ghost use Rattle.language.specs.Struct.{nodeOf};
 ghost use Rattle.layout.specs.Cut.{scratch};
-ghost use Rattle.layout.specs.Head.{HeadOk};
+ghost use Rattle.layout.specs.Head.{HeadIs, HeadOk};
 ghost use Rattle.layout.specs.Lent.{Lent};
-ghost use Rattle.layout.specs.View.{View, view};
+ghost use Rattle.layout.specs.View.{View, hd, view};
 ghost use Rattle.price.specs.Size.{cap};
 ghost use Rattle.pricing.specs.Entries.{EntryAt, Keeps};
 ghost use Rattle.pricing.specs.Node.{CostsNode};
@@ -24,7 +24,7 @@ ghost use Rattle.pricing.specs.Best.{BestOf, Betters, Chooses};
 ghost use Rattle.pricing.specs.Turn.{Accepts, Turns};
 ghost use Rattle.pricing.specs.Pass.{Passes};
 ghost use Rattle.pricing.specs.Costs.{FindsCosts};
-use cells::Change;
+use egraph::NodesRead;
 use language::Id;
 use language::Node;
 use language::wide;
@@ -36,7 +36,7 @@ const CAP: u64 = 18446744073709551615;
 // Half of a price is one word.
 const WORD: u64 = 4294967296;
 
-// A price and the node that earned it: `mark` is 0 for none, else 1 and the id whose key is the node.
+// A price and the node that earned it: `mark` is 0 for none, else 1 and an id that has the node.
 pub struct Entry {
     pub mark: usize,
     pub price: u64,
@@ -60,6 +60,12 @@ pub enum Taken {
     TakenBroken,
 }
 
+// Whether the passes have come to their end.
+pub enum Found {
+    CostsFound,
+    CostsBroken,
+}
+
 // The sum, or the greatest price.
 fn add(a: u64, b: u64) -> u64
     ensures { λ r. ⌜ r ≡ min (a + b) cap ⌝ }
@@ -73,30 +79,32 @@ fn add(a: u64, b: u64) -> u64
 // ---- entries in the scratch part
 
 // The entry of class c.
-pub fn get_entry(ws: &[u32], h: Head, c: usize) -> Entry
+pub fn get_entry(ws: &[u32], h: Head, c: Id) -> Entry
     requires { ⌜ HeadOk (length (now ws)) h ⌝ }
-    requires { ⌜ c < h .n ⌝ }
-    ensures { λ r. ⌜ EntryAt (h .n) (view (h .n) (h .m) (now (ws .entry)) .scratch) c r ⌝ }
+    requires { ⌜ c .0 < h .n ⌝ }
+    ensures { λ r. ⌜ EntryAt (h .n) (view (h .n) (h .m) (now (ws .entry)) .scratch) (c .0) r ⌝ }
 {
     let n = h.n;
-    let mark = layout::scratch(ws, h, 2 * n + c);
-    let low = layout::scratch(ws, h, 2 * c);
-    let high = layout::scratch(ws, h, 2 * c + 1);
+    let i = c.0 as usize;
+    let mark = layout::scratch(ws, h, 2 * n + i);
+    let low = layout::scratch(ws, h, 2 * i);
+    let high = layout::scratch(ws, h, 2 * i + 1);
     let price = low as u64 + high as u64 * WORD;
     Entry { mark, price }
 }
 
-fn set_entry(ws: &mut [u32], h: Head, c: usize, e: Entry)
+fn set_entry(ws: &mut [u32], h: Head, c: Id, e: Entry)
     requires { ⌜ HeadOk (length (now ws)) h ⌝ }
-    requires { ⌜ (c < h .n) × (e .mark < 2 ^ 32) ⌝ }
-    ensures { λ _. ⌜ Lent scratch (h .n) (h .m) (Keeps (h .n) c e) (now (ws .entry)) (now (ws .exit)) ⌝ }
+    requires { ⌜ (c .0 < h .n) × (e .mark < 2 ^ 32) ⌝ }
+    ensures { λ _. ⌜ Lent scratch (h .n) (h .m) (Keeps (h .n) (c .0) e) (now (ws .entry)) (now (ws .exit)) ⌝ }
 {
     let n = h.n;
+    let i = c.0 as usize;
     let low = (e.price % WORD) as usize;
     let high = (e.price / WORD) as usize;
-    layout::set_scratch(ws, h, 2 * c, low);
-    layout::set_scratch(ws, h, 2 * c + 1, high);
-    layout::set_scratch(ws, h, 2 * n + c, e.mark);
+    layout::set_scratch(ws, h, 2 * i, low);
+    layout::set_scratch(ws, h, 2 * i + 1, high);
+    layout::set_scratch(ws, h, 2 * n + i, e.mark);
 }
 
 // ---- the price of a node
@@ -111,8 +119,8 @@ fn node_total_cost(ws: &[u32], h: Head, node: Node) -> NodeCost
     let mut sum: u64 = 1;
     let mut i: usize = 0;
     while i < n {
-        let c = wide(node.child(i).0);
-        if h.ids <= c {
+        let c = node.child(i);
+        if h.ids <= c.0 as usize {
             return NodeCost::NodeCostBroken;
         }
         let e = get_entry(ws, h, c);
@@ -128,11 +136,11 @@ fn node_total_cost(ws: &[u32], h: Head, node: Node) -> NodeCost
 // ---- the best node of a class
 
 // The node of an id at a price, or the best of the nodes behind it in node order: at equal prices the one in front.
-fn choose(best: Entry, price: u64, id: usize) -> Entry
-    requires { ⌜ id < 65536 ⌝ }
-    ensures { λ r. ⌜ Chooses best price id r ⌝ }
+fn choose(best: Entry, price: u64, id: Id) -> Entry
+    requires { ⌜ id .0 < 65536 ⌝ }
+    ensures { λ r. ⌜ Chooses best price (id .0) r ⌝ }
 {
-    let mark = id + 1;
+    let mark = id.0 as usize + 1;
     if best.mark == 0 {
         return Entry { mark, price };
     }
@@ -148,47 +156,42 @@ fn better(ws: &[u32], h: Head, id: Id, best: Entry) -> Chosen
     requires { ⌜ (id .0 < h .n) × (best .mark ≤ h .n) ⌝ }
     ensures { λ r. ⌜ Betters h (id .0) best (view (h .n) (h .m) (now (ws .entry))) r ⌝ }
 {
-    let got = parts::on_rows::key(ws, h, id);
+    let got = egraph::root_node(ws, h, id);
     let out = got.out;
     let node = got.node;
-    let rows::Fetch::FetchDone = out else {
+    let egraph::NodeOut::NodeIs = out else {
         return Chosen::ChosenBroken;
     };
     match node_total_cost(ws, h, node) {
         NodeCost::NodeCostBroken => Chosen::ChosenBroken,
         NodeCost::NodeCostNone => Chosen::ChosenIs(best),
         NodeCost::NodeCostIs(p) => {
-            let e = choose(best, p, wide(id.0));
+            let e = choose(best, p, id);
             Chosen::ChosenIs(e)
         }
     }
 }
 
 // The first node in node order with the least price, of the nodes of class r: the walk goes back from the last.
-fn class_best(ws: &[u32], h: Head, r: usize) -> Chosen
+fn class_best(ws: &[u32], h: Head, r: Id) -> Chosen
     requires { ⌜ HeadOk (length (now ws)) h ⌝ }
-    requires { ⌜ r < h .n ⌝ }
-    ensures { λ o. ⌜ BestOf h r (view (h .n) (h .m) (now (ws .entry))) o ⌝ }
+    requires { ⌜ r .0 < h .n ⌝ }
+    ensures { λ o. ⌜ BestOf h (r .0) (view (h .n) (h .m) (now (ws .entry))) o ⌝ }
 {
-    let n = h.n;
-    let class = Id(r as u32);
-    let k = parts::on_members::len(ws, h, class);
-    if n < k {
+    let NodesRead::NodesAt(start) = egraph::class_nodes(ws, h, r) else {
         return Chosen::ChosenBroken;
-    }
+    };
     let mut best = Entry { mark: 0, price: 0 };
-    let mut id = parts::on_members::last(ws, h, class);
-    let mut left = k;
-    while 0 < left {
-        if n <= wide(id.0) {
+    let mut at = start;
+    while 0 < at.left {
+        let Chosen::ChosenIs(e) = better(ws, h, at.id, best) else {
             return Chosen::ChosenBroken;
-        }
-        let Chosen::ChosenIs(e) = better(ws, h, id, best) else {
+        };
+        let NodesRead::NodesAt(to) = egraph::previous(ws, h, at) else {
             return Chosen::ChosenBroken;
         };
         best = e;
-        left -= 1;
-        id = parts::on_members::link(ws, h, id);
+        at = to;
     }
     Chosen::ChosenIs(best)
 }
@@ -212,10 +215,10 @@ fn accepts(old: Entry, best: Entry) -> bool
 }
 
 // One class's turn.
-fn turn(ws: &mut [u32], h: Head, r: usize) -> Taken
+fn turn(ws: &mut [u32], h: Head, r: Id) -> Taken
     requires { ⌜ HeadOk (length (now ws)) h ⌝ }
-    requires { ⌜ r < h .n ⌝ }
-    ensures { λ o. ⌜ Turns h r (now (ws .entry)) o (now (ws .exit)) ⌝ }
+    requires { ⌜ r .0 < h .n ⌝ }
+    ensures { λ o. ⌜ Turns h (r .0) (now (ws .entry)) o (now (ws .exit)) ⌝ }
 {
     let Chosen::ChosenIs(best) = class_best(ws, h, r) else {
         return Taken::TakenBroken;
@@ -237,7 +240,7 @@ fn pass(ws: &mut [u32], h: Head) -> Taken
     let mut taken: usize = 0;
     let mut r: usize = 0;
     while r < ids {
-        let Taken::TakenIs(k) = turn(ws, h, r) else {
+        let Taken::TakenIs(k) = turn(ws, h, Id(r as u32)) else {
             return Taken::TakenBroken;
         };
         taken += k;
@@ -247,24 +250,24 @@ fn pass(ws: &mut [u32], h: Head) -> Taken
 }
 
 // Passes until one takes nothing. On a graph's words this comes within one more than there are classes; words that go on longer are no graph's.
-pub fn find_costs(ws: &mut [u32], h: Head) -> Change
-    requires { ⌜ HeadOk (length (now ws)) h ⌝ }
+pub fn find_costs(ws: &mut [u32], h: Head) -> Found
+    requires { ⌜ HeadIs (length (now ws)) (hd (now ws)) h ⌝ }
     ensures { λ r. ⌜ FindsCosts h (now (ws .entry)) r (now (ws .exit)) ⌝ }
 {
-    // a pass looks at no more nodes than there are ids
-    let eclass::Total::TotalIs(total) = eclass::count_nodes(ws, h) else {
-        return Change::ChangeBroken;
+    // a pass looks at no more nodes than there are ids: words whose classes have more are broken
+    let egraph::CountAnswer::CountIs(total) = egraph::total_number_of_nodes(ws) else {
+        return Found::CostsBroken;
     };
     let rounds = h.ids + 1;
     let mut i: usize = 0;
     while i < rounds {
         let Taken::TakenIs(k) = pass(ws, h) else {
-            return Change::ChangeBroken;
+            return Found::CostsBroken;
         };
         if k == 0 {
-            return Change::ChangeDone;
+            return Found::CostsFound;
         }
         i += 1;
     }
-    Change::ChangeBroken
+    Found::CostsBroken
 }

@@ -14,6 +14,7 @@ use Rattle.language.specs.Term.{Term, spell}
 use Rattle.steps.specs.Forced.{Made}
 use Rattle.steps.specs.Graph.{Graph, ids, node, root}
 use Rattle.egraph.specs.Answers.{SameLimits}
+use Rattle.egraph.specs.ClassReads.{KidsKnown}
 use Rattle.extract.specs.Form.{FormAs, FormLists, FormSays, form-of, form-says}
 use Rattle.extract.specs.Priced.{cost-of}
 use Rattle.extract.specs.declared.FormAnswer.{FormAnswer}
@@ -24,7 +25,6 @@ use Rattle.price.specs.Listing.{Stands-at, in-order}
 use Rattle.price.specs.Pass.{Best}
 use Rattle.price.specs.Shown.{entry-lt, in-order-at, in-order-length}
 use Rattle.price.specs.Size.{AstSize, Least-size, ast-size, cap, size-least, size-listed}
-use Rattle.pricing.specs.Classed.{KidsKnown}
 use Rattle.theorems.specs.Course.{Run}
 use Rattle.theorems.specs.Outcomes.{One, clean-ends, id-ends, left-alone, open-both}
 use Rattle.theorems.specs.Sizes.{made-known}

@@ -9,11 +9,11 @@ use Rattle.steps.specs.Forced.{Made}
 use Rattle.steps.specs.Graph.{Graph, ids, root}
 use Rattle.closure.specs.Kept.{made-good}
 use Rattle.egraph.specs.Answers.{SameLimits, yes-with}
+use Rattle.egraph.specs.ClassReads.{KidsKnown}
 use Rattle.extract.specs.Cost.{CostSays, cost-says, price-says}
 use Rattle.extract.specs.declared.CostAnswer.{CostAnswer}
 use Rattle.holds.specs.Holds.{Holds}
 use Rattle.price.specs.Size.{Least-size, ast-size, cap, size-least}
-use Rattle.pricing.specs.Classed.{KidsKnown}
 use Rattle.theorems.specs.Course.{Run}
 use Rattle.theorems.specs.Outcomes.{One, clean-ends, id-ends, left-alone, open-both}
 

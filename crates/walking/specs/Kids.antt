@@ -14,21 +14,21 @@ use Rattle.lists.specs.Reads.{at}
 use Rattle.lists.specs.Tests.{zero-one}
 use Rattle.language.specs.Struct.{nodeOf}
 use Rattle.language.specs.Term.{Term}
+use Rattle.language.specs.declared.Id.{Id}
 use Rattle.steps.specs.Graph.{Graph, ids, key-of}
+use Rattle.egraph.specs.ClassReads.{Classed, KidsIn, RootNode, classed-kids}
+use Rattle.egraph.specs.declared.NodeAnswer.{NodeAnswer}
+use Rattle.egraph.specs.declared.NodeOut.{NodeOut}
+use Rattle.egraph.specs.declared.NodeOut.the-variants.{NodeIs, NodeNot}
+use Rattle.egraph.specs.declared.Refusal.{Refusal}
 use Rattle.layout.specs.Lent.{Loaded}
 use Rattle.layout.specs.View.{View}
 use Rattle.layout.specs.declared.Head.{Head}
 use Rattle.price.specs.Listing.{Listing, spot}
 use Rattle.price.specs.Pass.{Best, Table, look}
-use Rattle.pricing.specs.Classed.{Classed}
 use Rattle.pricing.specs.Entries.{As, EntryAt, Names, Prices, entry-as}
 use Rattle.pricing.specs.Laid.{place-word}
-use Rattle.pricing.specs.Node.{KidsIn}
 use Rattle.pricing.specs.declared.Entry.{Entry}
-use Rattle.rows.specs.Promise.{Key}
-use Rattle.rows.specs.declared.Fetch.{Fetch}
-use Rattle.rows.specs.declared.Fetch.the-variants.{FetchBroken, FetchDone}
-use Rattle.rows.specs.declared.Fetched.{Fetched}
 use Rattle.walking.specs.Way.{or-else, unlisted}
 use Rattle.walking.specs.declared.NextKid.{NextKid}
 use Rattle.walking.specs.declared.NextKid.the-variants.{NextKidBroken, NextKidIs, NextKidNone}
@@ -40,15 +40,15 @@ Placed n ss l = (c : ℕ) → c < n → at ss (3 * n + c) ≡ place-word (spot c
 -- a child, or none
 abbrev pub told : Option ℕ → NextKid
 told none = NextKidNone
-told (some c) = NextKidIs c
+told (some c) = NextKidIs (record { 0 = c })
 
-pub broken-is : {A : Type 0} (c : ℕ) → NextKidBroken ≡ NextKidIs c → A
+pub broken-is : {A : Type 0} (c : Id) → NextKidBroken ≡ NextKidIs c → A
 broken-is c e = zero-one cc
 
 -- ---- a node's children
 
 pub record FirstKid (n N : ℕ) (ss : List ℕ) (x : Term) (r : NextKid) : Type 0 where
-  pub low : (c : ℕ) → r ≡ NextKidIs c → c < N
+  pub low : (c : Id) → r ≡ NextKidIs c → c .0 < N
   pub law : (l : Listing) → Placed n ss l → KidsIn N x → r ≡ told (unlisted l (x .kids))
 
 -- the first i children are listed
@@ -71,10 +71,10 @@ module _ (n N : ℕ) (ss : List ℕ) (x : Term) where
         go l none e = absurd (z e)
         go l (some p) e = rw (add-one i) refl
 
-    pub look-found : w ≡ 0 → FirstKid n N ss x (NextKidIs c)
-    look-found z = record {
-      low = λ d e. let q : c ≡ d = cc in omega arith;
-      law = λ l P K. sym (ap told (A .law l P K ∙ split l ∙ go l (spot c l) (L .is ∙ P c (omega arith))));
+    pub look-found : (kid : Id) → c ≡ kid .0 → w ≡ 0 → FirstKid n N ss x (NextKidIs kid)
+    look-found kid k z = record {
+      low = λ d e. let q : kid ≡ d = cc in rw (← q, ← k) lt;
+      law = λ l P K. ap (λ (y : ℕ). NextKidIs (record { 0 = y })) (sym k) ∙ sym (ap told (A .law l P K ∙ split l ∙ go l (spot c l) (L .is ∙ P c (omega arith))));
     }
       where
         go : (l : Listing) (o : Option ℕ) → w ≡ place-word o → or-else c o (unlisted l (drop (suc i) (x .kids))) ≡ some c
@@ -97,7 +97,7 @@ module _ (n N : ℕ) (ss : List ℕ) (x : Term) where
 -- ---- the children of a class's chosen node
 
 pub record NextKidOf (h : Head) (c : ℕ) (v : View) (r : NextKid) : Type 0 where
-  pub low : (x : ℕ) → r ≡ NextKidIs x → x < h .ids
+  pub low : (x : Id) → r ≡ NextKidIs x → x .0 < h .ids
   pub law : (g : Graph) (t : Table ℕ) (b : Best ℕ) (l : Listing) → Classed h v g → Prices g (h .n) (v .scratch) t
       → look c t ≡ some b → Placed (h .n) (v .scratch) l → r ≡ told (unlisted l (b .node .kids))
 
@@ -109,30 +109,26 @@ module _ (h : Head) (c : ℕ) (v : View) (e : Entry) (hc : c < h .n) (E : EntryA
   pub next-unmarked : e .mark ≡ 0 → NextKidOf h c v NextKidBroken
   next-unmarked z = record { low = λ x q. broken-is x q; law = λ g t b l C P q D. absurd (omega (arith, named g t b P q .marked)) }
 
-  module _ (some-mark : e .mark ≢ 0) where
-    pub next-stray : h .ids ≤ e .mark - 1 → NextKidOf h c v NextKidBroken
-    next-stray off = record { low = λ x q. broken-is x q; law = λ g t b l C P q D. absurd (omega (arith, named g t b P q .marked, named g t b P q .known, C .ids-are)) }
+  -- the node of the id that the mark names is the chosen node
+  module _ (some-mark : e .mark ≢ 0) (f : NodeAnswer) (F : RootNode h v (e .mark - 1) f) where
+    node-is : (g : Graph) (t : Table ℕ) (b : Best ℕ) → Classed h v g → Prices g (h .n) (v .scratch) t → look c t ≡ some b
+        → (f .out ≡ NodeIs) × (nodeOf (f .node) ≡ b .node) × KidsIn (h .ids) (b .node)
+    node-is g t b C P q =
+        let N = named g t b P q in
+        let i : e .mark - 1 ≡ N .id = omega (arith, N .marked) in
+        let l : e .mark - 1 < ids g = omega (arith, N .known) in
+        let w : key-of g (e .mark - 1) ≡ b .node = ap (key-of g) i ∙ N .node-is in
+        let k = F .sound g C l in
+        (k .0, k .1 ∙ w, rw (← w) (classed-kids C (e .mark - 1) l))
 
-    module _ (lt : e .mark - 1 < h .ids) (f : Fetched) (F : Key (v .rows) (h .n) (h .m) (e .mark - 1) f) where
-      -- the row is the chosen node
-      row-is : (g : Graph) (t : Table ℕ) (b : Best ℕ) → Classed h v g → Prices g (h .n) (v .scratch) t → look c t ≡ some b
-          → (f .out ≡ FetchDone) × (nodeOf (f .node) ≡ b .node) × KidsIn (h .ids) (b .node)
-      row-is g t b C P q =
-          let N = named g t b P q in
-          let i : e .mark - 1 ≡ N .id = omega (arith, N .marked) in
-          let l : e .mark - 1 < ids g = omega (arith, C .ids-are) in
-          let k = F .sound (g .nodes) (C .keys) (C .rows) l in
-          let w : key-of g (e .mark - 1) ≡ b .node = ap (key-of g) i ∙ N .node-is in
-          (k .0, k .1 ∙ C .tidy-keys (e .mark - 1) l ∙ w, rw (← w) (C .kids-in (e .mark - 1) l))
+    pub next-unread : (o : NodeOut) (k : Refusal) → o ≡ f .out → o ≡ NodeNot k → NextKidOf h c v NextKidBroken
+    next-unread o k w q = record { low = λ x p. broken-is x p; law = λ g t b l C P u D. absurd (apart (node-is g t b C P u .0)) }
+      where
+        apart : f .out ≡ NodeIs → ⊥
+        apart d = zero-one (cc (sym d ∙ (sym w ∙ q)))
 
-      pub next-unread : (o : Fetch) → o ≡ f .out → o ≡ FetchBroken → NextKidOf h c v NextKidBroken
-      next-unread o w q = record { low = λ x p. broken-is x p; law = λ g t b l C P u D. absurd (apart (row-is g t b C P u .0)) }
-        where
-          apart : f .out ≡ FetchDone → ⊥
-          apart d = zero-one cc
-
-      pub next-done : (r : NextKid) → FirstKid (h .n) (h .ids) (v .scratch) (nodeOf (f .node)) r → NextKidOf h c v r
-      next-done r K = record {
-        low = K .low;
-        law = λ g t b l C P u D. let k = row-is g t b C P u in subst (λ (x : Term). r ≡ told (unlisted l (x .kids))) (k .1) (K .law l D (rw (k .1) (k .2)));
-      }
+    pub next-done : (r : NextKid) → FirstKid (h .n) (h .ids) (v .scratch) (nodeOf (f .node)) r → NextKidOf h c v r
+    next-done r K = record {
+      low = K .low;
+      law = λ g t b l C P u D. let k = node-is g t b C P u in subst (λ (x : Term). r ≡ told (unlisted l (x .kids))) (k .1) (K .law l D (rw (k .1) (k .2)));
+    }

@@ -13,9 +13,11 @@ use Rattle.lists.specs.Keeps.{length-filter, length-upto, upto}
 use Rattle.lists.specs.Reads.{at}
 use Rattle.lists.specs.Stores.{puts, puts-hit, puts-miss}
 use Rattle.lists.specs.Tests.{zero-one}
+use Rattle.language.specs.declared.Id.{Id}
 use Rattle.steps.specs.Classes.{class-nodes, class-roots}
 use Rattle.steps.specs.Graph.{Graph, ids, root}
 use Rattle.closure.specs.Listed.{roots-from}
+use Rattle.egraph.specs.ClassReads.{Classed, classed-ids, classed-listed}
 use Rattle.layout.specs.Cut.{scratch}
 use Rattle.layout.specs.Head.{HeadOk}
 use Rattle.layout.specs.Idle.{lent-same}
@@ -27,7 +29,6 @@ use Rattle.price.specs.Listing.{Listing, with-places}
 use Rattle.price.specs.Pass.{Table}
 use Rattle.price.specs.Shown.{Fine}
 use Rattle.price.specs.Size.{AstSize}
-use Rattle.pricing.specs.Classed.{Classed}
 use Rattle.walking.specs.Kids.{NextKidOf, told}
 use Rattle.walking.specs.State.{Behind, Stacked, Standing, laid-kept, laid-more, listing-stores, prices-kept, stacked-kept}
 use Rattle.walking.specs.Way.{Top, Way, few-listed, fine-list, in-roots, unlisted, way-list, way-push, way-top}
@@ -72,9 +73,9 @@ pub record Atop (n : ℕ) (g : Graph) (t : Table ℕ) (B : Backed AstSize (class
 few-roots : (g : Graph) → length (class-roots g) ≤ ids g
 few-roots g = omega (arith, length-filter (λ (i : ℕ). ℕ-discrete (root (g .roots) i) i) (upto (ids g)), length-upto (ids g))
 
-told-some : (o : Option ℕ) (x : ℕ) → NextKidIs x ≡ told o → o ≡ some x
+told-some : (o : Option ℕ) (x : Id) → NextKidIs x ≡ told o → o ≡ some (x .0)
 told-some none x e = zero-one cc
-told-some (some y) x e = let z : x ≡ y = cc in ap some (sym z)
+told-some (some y) x e = let z : x ≡ record { 0 = y } = cc in ap (λ (i : Id). some (i .0)) (sym z)
 
 told-none : (o : Option ℕ) → NextKidNone ≡ told o → o ≡ none
 told-none none e = refl
@@ -140,7 +141,7 @@ module _ (h : Head) (g : Graph) (t : Table ℕ) (B : Backed AstSize (class-nodes
 
       pub list-room : {v : View} → Classed h v g → k < length (class-roots g)
       list-room C =
-          let f = few-listed AstSize (class-nodes g) (class-roots g) (C .listed) t B K ((c, with-places (S .now) (A .top .best .node)) ∷ S .now) fine-more in
+          let f = few-listed AstSize (class-nodes g) (class-roots g) (classed-listed C) t B K ((c, with-places (S .now) (A .top .best .node)) ∷ S .now) fine-more in
           omega (arith, f, S .count)
 
       pub stand-list : k < h .n → c < h .n → ListsAt (h .n) k c ss ss′ → Standing h g t B K m ss′ (k + 1) (d - 1)
@@ -183,14 +184,14 @@ module _ (h : Head) (k d : ℕ) (ws : List ℕ) (ok : HeadOk (length ws) h) (hk 
 
     top-in : c < h .ids
     top-in =
-        let q = roots-from g c (in-roots AstSize (class-nodes g) (class-roots g) (C .listed) t B K c (on .top .best) (on .top .chosen)) in
-        omega (arith, q .0, C .ids-are)
+        let q = roots-from g c (in-roots AstSize (class-nodes g) (class-roots g) (classed-listed C) t B K c (on .top .best) (on .top .chosen)) in
+        omega (arith, q .0, classed-ids C)
 
     next-is : (r : NextKid) → NextKidOf h c (view (h .n) (h .m) ws) r → r ≡ told (unlisted (S .now) (on .top .best .node .kids))
     next-is r N = N .law g t (on .top .best) (S .now) C (S .prices) (on .top .chosen) (S .laid .places)
 
     room : length (class-roots g) ≤ h .n
-    room = omega (arith, few-roots g, C .ids-are, ok .ids-in)
+    room = omega (arith, few-roots g, classed-ids C, ok .ids-in)
 
   pub step-stray : h .ids ≤ c → Steps h k d ws SteppedBroken ws
   step-stray off = refused (λ g C t B K m S. omega (arith, top-in g C t B K m S))
@@ -202,23 +203,23 @@ module _ (h : Head) (k d : ℕ) (ws : List ℕ) (ok : HeadOk (length ws) h) (hk 
     pub step-broken : r ≡ NextKidBroken → Steps h k d ws SteppedBroken ws
     step-broken e = refused (λ g C t B K m S. told-not (unlisted (S .now) (on g C t B K m S .top .best .node .kids)) (sym e ∙ next-is g C t B K m S r N))
 
-    module _ (x : ℕ) (e : r ≡ NextKidIs x) where
+    module _ (x : Id) (e : r ≡ NextKidIs x) where
       first-is : (g : Graph) (C : Classed h (view (h .n) (h .m) ws) g) (t : Table ℕ) (B : Backed AstSize (class-nodes g) t) (K : Ranked AstSize (class-nodes g) t) (m : Listing)
-          (S : Standing h g t B K m (view (h .n) (h .m) ws .scratch) k d) → unlisted (S .now) (on g C t B K m S .top .best .node .kids) ≡ some x
+          (S : Standing h g t B K m (view (h .n) (h .m) ws .scratch) k d) → unlisted (S .now) (on g C t B K m S .top .best .node .kids) ≡ some (x .0)
       first-is g C t B K m S = told-some (unlisted (S .now) (on g C t B K m S .top .best .node .kids)) x (sym e ∙ next-is g C t B K m S r N)
 
       pub step-full : d ≡ h .n → Steps h k d ws SteppedBroken ws
       step-full f =
           refused
           (λ g C t B K m S.
-          omega (arith, push-room h g t B K m (view (h .n) (h .m) ws .scratch) k d c S (on g C t B K m S) size [] x (first-is g C t B K m S), room g C t B K m S))
+          omega (arith, push-room h g t B K m (view (h .n) (h .m) ws .scratch) k d c S (on g C t B K m S) size [] (x .0) (first-is g C t B K m S), room g C t B K m S))
 
-      pub step-push : (ws′ : List ℕ) → d ≢ h .n → Lent scratch (h .n) (h .m) (Stored (5 * h .n + d) x) ws ws′ → Steps h k d ws (SteppedTo (record { listed = k; depth = d + 1 })) ws′
+      pub step-push : (ws′ : List ℕ) → d ≢ h .n → Lent scratch (h .n) (h .m) (Stored (5 * h .n + d) (x .0)) ws ws′ → Steps h k d ws (SteppedTo (record { listed = k; depth = d + 1 })) ws′
       step-push ws′ ne T = record {
-        only = lent-map (λ s s′ q i l. rw q (puts-miss ((5 * h .n + d, x) ∷ []) s i (omega arith, tt))) T;
+        only = lent-map (λ s s′ q i l. rw q (puts-miss ((5 * h .n + d, x .0) ∷ []) s i (omega arith, tt))) T;
         onward = λ a q. let z : record { listed = k; depth = d + 1 } ≡ a = cc in rw (← z) (hk, omega arith, omega arith);
         law = λ g t B K m C S.
-            (record { listed = k; depth = d + 1 }, refl, stand-push h g t B K m (view (h .n) (h .m) ws .scratch) k d c S (on g C t B K m S) size _ x (first-is g C t B K m S) (omega arith) (T .did));
+            (record { listed = k; depth = d + 1 }, refl, stand-push h g t B K m (view (h .n) (h .m) ws .scratch) k d c S (on g C t B K m S) size _ (x .0) (first-is g C t B K m S) (omega arith) (T .did));
       }
 
     module _ (e : r ≡ NextKidNone) where

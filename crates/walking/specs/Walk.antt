@@ -1,25 +1,27 @@
 -- The whole walk: `list_form` promises that on the words of a clean graph with its prices, where no class is listed yet, it leaves the listing of the asked class's
 -- cheapest form (`listing` of price) in the scratch part as Laid (pricing) has it, and answers its length. On any words it writes the scratch words from 3n on only.
 -- Assumes nothing.
+use mathlib.Core.Bool.{true}
 use mathlib.Core.List.{List, [], _∷_}
 use mathlib.Core.Logic.{_≢_}
 use mathlib.Core.Option.{some}
 use mathlib.Core.Path.{_∙_, _≡_, ap, refl, sym}
 use Prim.Native.Nat.{_*_, _+_, _<_, _≤_, ℕ}
 use native.Mathlib.Omega.{arith}
-use lib.ListN.{length, replicate}
+use lib.ListN.{length}
 use Rattle.lists.specs.Options.{none≢some}
 use Rattle.lists.specs.Reads.{at, getD-copies}
 use Rattle.lists.specs.Stores.{puts-hit, puts-miss}
 use Rattle.lists.specs.Tests.{zero-one}
 use Rattle.steps.specs.Classes.{class-nodes, class-roots}
 use Rattle.steps.specs.Graph.{Graph}
-use Rattle.cells.specs.declared.Change.{Change}
+use Rattle.egraph.specs.ClassReads.{Classed, KidsKnown, classed-lent, classed-listed, scratch-clear}
+use Rattle.holds.specs.Holds.{Holds}
 use Rattle.layout.specs.Cut.{scratch}
-use Rattle.layout.specs.Head.{HeadOk}
+use Rattle.layout.specs.Head.{HeadIs, HeadOk}
 use Rattle.layout.specs.Idle.{lent-same}
 use Rattle.layout.specs.Lent.{Lent, Stored, lent-twice}
-use Rattle.layout.specs.View.{View, get-length, view}
+use Rattle.layout.specs.View.{View, get-length, hd, view}
 use Rattle.layout.specs.declared.Head.{Head}
 use Rattle.price.specs.Chosen.{Backed, Ranked, backed, no-circle, ranked}
 use Rattle.price.specs.Extract.{listing, table}
@@ -27,10 +29,10 @@ use Rattle.price.specs.Listing.{Listing, spot}
 use Rattle.price.specs.Pass.{Best, Table, look}
 use Rattle.price.specs.Shown.{Fine}
 use Rattle.price.specs.Size.{AstSize}
-use Rattle.pricing.specs.Classed.{Classed, classed-lent}
 use Rattle.pricing.specs.Costs.{FindsCosts}
-use Rattle.pricing.specs.Entries.{Prices, prices-none}
+use Rattle.pricing.specs.Entries.{Prices}
 use Rattle.pricing.specs.Laid.{Laid}
+use Rattle.pricing.specs.declared.Found.{Found}
 use Rattle.walking.specs.State.{Behind, Standing, laid-kept, laid-none, prices-kept}
 use Rattle.walking.specs.Step.{Steps}
 use Rattle.walking.specs.Way.{Way, way-end, way-start}
@@ -156,7 +158,7 @@ module _ (h : Head) (r : ℕ) (ws ws1 : List ℕ) (ok : HeadOk (length ws) h) (T
   stand-start g C R =
       go
       (way-start AstSize (class-nodes g) (table AstSize g) (backs g) (ranks g) (length (class-roots g)) r
-      (no-circle AstSize (class-nodes g) (class-roots g) (C .listed) (table AstSize g) (backs g) (ranks g) r (R .best) (R .entry)))
+      (no-circle AstSize (class-nodes g) (class-roots g) (classed-listed C) (table AstSize g) (backs g) (ranks g) r (R .best) (R .entry)))
     where
       go : (k : ℕ) × (k + 1 ≡ length (class-roots g)) × Way AstSize (class-nodes g) (table AstSize g) (backs g) (ranks g) k (r ∷ []) [] (listing g (table AstSize g) r)
           → Standing h g (table AstSize g) (backs g) (ranks g) (listing g (table AstSize g) r) ss1 0 1
@@ -184,12 +186,12 @@ module _ (h : Head) (r : ℕ) (ws ws1 : List ℕ) (ok : HeadOk (length ws) h) (T
 
 -- ---- after the passes
 
--- what `find_costs` leaves of a scratch part that was 0
-pub ready : (h : Head) (ws ws1 : List ℕ) (o : Change) → FindsCosts h ws o ws1 → (g : Graph) → Classed h (view (h .n) (h .m) ws) g → view (h .n) (h .m) ws .scratch ≡ replicate (6 * h .n) 0
+-- what `find_costs` leaves of words that hold a clean graph
+pub ready : (h : Head) (ws ws1 : List ℕ) (o : Found) → HeadIs (length ws) (hd ws) h → FindsCosts h ws o ws1 → (g : Graph) → Holds ws g → g .clean ≡ true → KidsKnown g
     → (r : ℕ) (b : Best ℕ) → look r (table AstSize g) ≡ some b → Ready h g r (view (h .n) (h .m) ws1 .scratch)
-ready h ws ws1 o F g C z r b e = record {
-  prices = F .law g C (rw z (prices-none g (h .n) (6 * h .n))) .1;
-  unplaced = λ c l. F .only .did (3 * h .n + c) (omega arith) ∙ rw z (getD-copies (6 * h .n) (3 * h .n + c) 0);
+ready h ws ws1 o q F g H c K r b e = record {
+  prices = F .law g H c K .1;
+  unplaced = λ i l. F .only .did (3 * h .n + i) (omega arith) ∙ rw (scratch-clear ws h g q H) (getD-copies (6 * h .n) (3 * h .n + i) 0);
   best = b;
   entry = e;
 }

@@ -27,7 +27,7 @@ use layout::Head;
 
 // A child that is not listed, or none; broken are words that no calls could have produced.
 pub enum NextKid {
-    NextKidIs(usize),
+    NextKidIs(Id),
     NextKidNone,
     NextKidBroken,
 }
@@ -61,13 +61,14 @@ fn first_unlisted(ws: &[u32], h: Head, node: Node) -> NextKid
     let k = wide(node.count);
     let mut i: usize = 0;
     while i < k {
-        let c = wide(node.child(i).0);
+        let kid = node.child(i);
+        let c = wide(kid.0);
         if h.ids <= c {
             return NextKid::NextKidBroken;
         }
         let place = layout::scratch(ws, h, 3 * n + c);
         if place == 0 {
-            return NextKid::NextKidIs(c);
+            return NextKid::NextKidIs(kid);
         }
         i += 1;
     }
@@ -75,23 +76,19 @@ fn first_unlisted(ws: &[u32], h: Head, node: Node) -> NextKid
 }
 
 // The first child of class c's chosen node that is not listed.
-fn next_kid(ws: &[u32], h: Head, c: usize) -> NextKid
+fn next_kid(ws: &[u32], h: Head, c: Id) -> NextKid
     requires { ⌜ HeadOk (length (now ws)) h ⌝ }
-    requires { ⌜ c < h .n ⌝ }
-    ensures { λ r. ⌜ NextKidOf h c (view (h .n) (h .m) (now (ws .entry))) r ⌝ }
+    requires { ⌜ c .0 < h .n ⌝ }
+    ensures { λ r. ⌜ NextKidOf h (c .0) (view (h .n) (h .m) (now (ws .entry))) r ⌝ }
 {
     let e = pricing::get_entry(ws, h, c);
     if e.mark == 0 {
         return NextKid::NextKidBroken;
     }
-    let id = e.mark - 1;
-    if h.ids <= id {
-        return NextKid::NextKidBroken;
-    }
-    let got = parts::on_rows::key(ws, h, Id(id as u32));
+    let got = egraph::root_node(ws, h, Id((e.mark - 1) as u32));
     let out = got.out;
     let node = got.node;
-    let rows::Fetch::FetchDone = out else {
+    let egraph::NodeOut::NodeIs = out else {
         return NextKid::NextKidBroken;
     };
     first_unlisted(ws, h, node)
@@ -100,12 +97,13 @@ fn next_kid(ws: &[u32], h: Head, c: usize) -> NextKid
 // ---- the steps
 
 // Class c is listed at place k.
-fn list_class(ws: &mut [u32], h: Head, k: usize, c: usize)
+fn list_class(ws: &mut [u32], h: Head, k: usize, class: Id)
     requires { ⌜ HeadOk (length (now ws)) h ⌝ }
-    requires { ⌜ (k < h .n) × (c < h .n) ⌝ }
-    ensures { λ _. ⌜ Lent scratch (h .n) (h .m) (ListsAt (h .n) k c) (now (ws .entry)) (now (ws .exit)) ⌝ }
+    requires { ⌜ (k < h .n) × (class .0 < h .n) ⌝ }
+    ensures { λ _. ⌜ Lent scratch (h .n) (h .m) (ListsAt (h .n) k (class .0)) (now (ws .entry)) (now (ws .exit)) ⌝ }
 {
     let n = h.n;
+    let c = class.0 as usize;
     layout::set_scratch(ws, h, 4 * n + k, c);
     layout::set_scratch(ws, h, 3 * n + c, k + 1);
 }
@@ -123,13 +121,14 @@ fn step(ws: &mut [u32], h: Head, from: Reached) -> Stepped
     if h.ids <= c {
         return Stepped::SteppedBroken;
     }
-    match next_kid(ws, h, c) {
+    let top = Id(c as u32);
+    match next_kid(ws, h, top) {
         NextKid::NextKidBroken => Stepped::SteppedBroken,
         NextKid::NextKidIs(x) => {
             if d == n {
                 return Stepped::SteppedBroken;
             }
-            layout::set_scratch(ws, h, 5 * n + d, x);
+            layout::set_scratch(ws, h, 5 * n + d, x.0 as usize);
             let to = Reached {
                 listed: k,
                 depth: d + 1,
@@ -140,7 +139,7 @@ fn step(ws: &mut [u32], h: Head, from: Reached) -> Stepped
             if k == n {
                 return Stepped::SteppedBroken;
             }
-            list_class(ws, h, k, c);
+            list_class(ws, h, k, top);
             let to = Reached {
                 listed: k + 1,
                 depth: d - 1,
@@ -169,12 +168,12 @@ fn finish(ws: &mut [u32], h: Head) -> Listed
 }
 
 // The listing of the cheapest form of class r, where no class is listed yet.
-pub fn list_form(ws: &mut [u32], h: Head, r: usize) -> Listed
+pub fn list_form(ws: &mut [u32], h: Head, r: Id) -> Listed
     requires { ⌜ HeadOk (length (now ws)) h ⌝ }
-    requires { ⌜ r < h .n ⌝ }
-    ensures { λ o. ⌜ ListsForm h r (now (ws .entry)) o (now (ws .exit)) ⌝ }
+    requires { ⌜ r .0 < h .n ⌝ }
+    ensures { λ o. ⌜ ListsForm h (r .0) (now (ws .entry)) o (now (ws .exit)) ⌝ }
 {
     let n = h.n;
-    layout::set_scratch(ws, h, 5 * n, r);
+    layout::set_scratch(ws, h, 5 * n, r.0 as usize);
     finish(ws, h)
 }

@@ -1,20 +1,17 @@
 use mathlib.Core.Path.{refl}
-use Rattle.forming.specs.FormNode.{node-placed, node-stray, node-unmarked, node-unread}
+use Rattle.forming.specs.FormNode.{node-placed, node-unmarked, node-unread}
 use borrow.Author.Needs.{needs}
 use Rattle.forming.proofs.form_node.Statement.{statement}
 use Rattle.forming.proofs.form_node.Tie as tie
 
 returns : tie.Need-returns
-returns c = node-unmarked _ _ _ _ _ _ (c .before .before .mark-at .ensures) (c .before .if1 .taken) _ (c .no-node .ensures)
+returns c = node-unmarked _ _ _ _ (c .before .before .mark-at .ensures) (c .before .if1 .taken) _ (c .no-node .ensures)
 
 returns-2 : tie.Need-returns-2
-returns-2 c = node-stray _ _ _ _ _ _ (c .before .before .before .before .mark-at .ensures) (c .before .before .before .if1 .left) (c .before .if2 .taken) _ (c .no-node2 .ensures)
+returns-2 c = node-unread _ _ _ _ (c .before .before .before .before .before .before .mark-at .ensures) (c .before .before .before .before .before .if1 .left) _ (c .before .before .before .before .root-node .ensures) _ _ refl (c .before .enum-told2 .given .1) _ (c .no-node2 .ensures)
 
 returns-3 : tie.Need-returns-3
-returns-3 c = node-unread _ _ _ _ _ _ (c .before .before .before .before .before .before .before .before .mark-at .ensures) (c .before .before .before .before .before .before .before .if1 .left) (c .before .before .before .before .before .if2 .left) _ (c .before .before .before .before .key .ensures) _ refl (c .before .enum-told2 .given .1) _ (c .no-node3 .ensures)
-
-returns-4 : tie.Need-returns-4
-returns-4 c = node-placed _ _ _ _ _ _ (c .before .before .before .before .before .before .before .before .mark-at .ensures) (c .before .before .before .before .before .before .before .if1 .left) (c .before .before .before .before .before .if2 .left) _ (c .before .before .before .before .key .ensures) _ refl (c .before .enum-told .given .1) _ (c .with-places .ensures)
+returns-3 c = node-placed _ _ _ _ (c .before .before .before .before .before .before .mark-at .ensures) (c .before .before .before .before .before .if1 .left) _ (c .before .before .before .before .root-node .ensures) _ refl (c .before .enum-told .given .1) _ (c .with-places .ensures)
 
 pub form-node-spec : {M : Type 1} → statement M
 form-node-spec =
@@ -24,13 +21,11 @@ form-node-spec =
     (λ c κs. search needs)
     returns
     (λ c. search needs)
+    (λ c. search needs)
+    (λ c κs. search needs)
+    (λ c. search needs)
+    (λ c. search needs)
     (λ c κs. search needs)
     returns-2
-    (λ c. search needs)
     (λ c κs. search needs)
-    (λ c. search needs)
-    (λ c. search needs)
-    (λ c κs. search needs)
-    returns-3
-    (λ c κs. search needs)
-    returns-4)
+    returns-3)

@@ -9,7 +9,7 @@ use Rattle.forming.proofs.put_form.Statement.{statement}
 use Rattle.forming.proofs.put_form.Tie as tie
 
 abbrev Inv-loop : tie.InvT-loop
-Inv-loop ws h k out₀ at₀ p₀ out at p = (p ≤ k) × Wrote out₀ 0 (pieces (form-piece (view (h .n) (h .m) ws .rows) (view (h .n) (h .m) ws .scratch) (h .n) (h .m)) p) at out
+Inv-loop ws h k out₀ at₀ p₀ out at p = (p ≤ k) × Wrote out₀ 0 (pieces (form-piece h (view (h .n) (h .m) ws)) p) at out
 
 abbrev μ-loop : tie.MeasureT-loop
 μ-loop ws h k out₀ at₀ p₀ out at p = k - p
@@ -21,10 +21,10 @@ form-node-requires : tie.Need-form-node-requires Inv-loop μ-loop
 form-node-requires c κs = ((c .before .before .before .before .pre .0), omega (arith, (c .before .before .before .before .pre .1 .0)))
 
 put-node-requires : tie.Need-put-node-requires Inv-loop μ-loop
-put-node-requires c κs = ((c .before .form-node .ensures .few), put-room _ _ _ _ _ _ (c .before .form-node .ensures) (c .before .before .before .before .before .before .pre .1 .1 .0 (c .before .before .before .loop .p) (omega arith)) _ _ _ (c .before .before .before .loop .inv .1) _ (omega arith) (c .before .before .before .before .before .before .pre .1 .1 .1))
+put-node-requires c κs = ((c .before .form-node .ensures .few), put-room _ _ _ _ (c .before .form-node .ensures) (c .before .before .before .before .before .before .pre .1 .1 .0 (c .before .before .before .loop .p) (omega arith)) _ _ _ (c .before .before .before .loop .inv .1) _ (omega arith) (c .before .before .before .before .before .before .pre .1 .1 .1))
 
 loop-again : tie.Need-loop-again Inv-loop μ-loop
-loop-again c = (omega arith, put-next _ _ _ _ _ _ (c .before .before .before .before .form-node .ensures) (c .before .before .before .before .before .before .before .before .before .pre .1 .1 .0 (c .before .before .before .before .before .before .loop .p) (omega arith)) _ _ _ (c .before .before .before .before .before .before .loop .inv .1) _ _ (c .before .before .put-node .ensures))
+loop-again c = (omega arith, put-next _ _ _ _ (c .before .before .before .before .form-node .ensures) (c .before .before .before .before .before .before .before .before .before .pre .1 .1 .0 (c .before .before .before .before .before .before .loop .p) (omega arith)) _ _ _ (c .before .before .before .before .before .before .loop .inv .1) _ _ (c .before .before .put-node .ensures))
 
 same-length : tie.Need-same-length Inv-loop μ-loop
 same-length c = (c .before .loop .inv .1 .size)

@@ -1,4 +1,3 @@
-use mathlib.Core.Path.{_∙_}
 use Prim.Native.Nat.{_≤_, _-_}
 use native.Mathlib.Omega.{arith}
 use borrow.Author.Needs.{needs}
@@ -23,21 +22,21 @@ returns c =
     let x = (c .before .before .before .before .before .before .before .before .args .node) in
     let f = count-kids x (sized x (c .before .before .before .before .before .before .before .before .good .1 .1 .0)) (c .before .before .before .before .before .before .before .before .pre .1) in
     let w = (c .before .before .before .before .before .before .wide .ensures .0) in
-    cost-stray _ _ _ _ (c .before .before .before .before .before .loop .i) _ (omega (arith, (c .before .before .before .before .loop-test .taken))) ((c .before .before .wide2 .ensures .0) ∙ (c .before .before .before .child .ensures)) (c .if1 .taken)
+    cost-stray _ _ _ _ (c .before .before .before .before .before .loop .i) _ (omega (arith, (c .before .before .before .before .loop-test .taken))) (c .before .before .before .child .ensures) (c .if1 .taken)
 
 returns-2 : tie.Need-returns-2 Inv-loop μ-loop
 returns-2 c =
     let x = (c .before .before .before .before .before .before .before .before .before .before .before .args .node) in
     let f = count-kids x (sized x (c .before .before .before .before .before .before .before .before .before .before .before .good .1 .1 .0)) (c .before .before .before .before .before .before .before .before .before .before .before .pre .1) in
     let w = (c .before .before .before .before .before .before .before .before .before .wide .ensures .0) in
-    cost-none _ _ _ _ (c .before .before .before .before .before .before .before .before .loop .i) _ _ _ (c .before .before .before .before .before .before .before .before .loop .inv .1) (omega (arith, (c .before .before .before .before .before .before .before .loop-test .taken))) ((c .before .before .before .before .before .wide2 .ensures .0) ∙ (c .before .before .before .before .before .before .child .ensures)) (omega (arith, (c .before .before .before .if1 .left), (c .before .before .before .before .before .before .before .before .before .before .before .pre .0 .ids-in))) (c .before .before .get-entry .ensures) (c .if2 .taken)
+    cost-none _ _ _ _ (c .before .before .before .before .before .before .before .before .loop .i) _ _ _ (c .before .before .before .before .before .before .before .before .loop .inv .1) (omega (arith, (c .before .before .before .before .before .before .before .loop-test .taken))) (c .before .before .before .before .before .before .child .ensures) (omega (arith, (c .before .before .before .if1 .left), (c .before .before .before .before .before .before .before .before .before .before .before .pre .0 .ids-in))) (c .before .before .get-entry .ensures) (c .if2 .taken)
 
 loop-again : tie.Need-loop-again Inv-loop μ-loop
 loop-again c =
     let x = (c .before .before .before .before .before .before .before .before .before .before .before .before .args .node) in
     let f = count-kids x (sized x (c .before .before .before .before .before .before .before .before .before .before .before .before .good .1 .1 .0)) (c .before .before .before .before .before .before .before .before .before .before .before .before .pre .1) in
     let w = (c .before .before .before .before .before .before .before .before .before .before .wide .ensures .0) in
-    (omega arith, adding-more _ _ _ _ (c .before .before .before .before .before .before .before .before .before .loop .i) _ _ _ (c .before .before .before .before .before .before .before .before .before .loop .inv .1) (omega (arith, (c .before .before .before .before .before .before .before .before .loop-test .taken))) ((c .before .before .before .before .before .before .wide2 .ensures .0) ∙ (c .before .before .before .before .before .before .before .child .ensures)) (omega (arith, (c .before .before .before .before .if1 .left), (c .before .before .before .before .before .before .before .before .before .before .before .before .pre .0 .ids-in))) (c .before .before .before .get-entry .ensures) _ (c .before .if2 .left) (c .add .ensures))
+    (omega arith, adding-more _ _ _ _ (c .before .before .before .before .before .before .before .before .before .loop .i) _ _ _ (c .before .before .before .before .before .before .before .before .before .loop .inv .1) (omega (arith, (c .before .before .before .before .before .before .before .before .loop-test .taken))) (c .before .before .before .before .before .before .before .child .ensures) (omega (arith, (c .before .before .before .before .if1 .left), (c .before .before .before .before .before .before .before .before .before .before .before .before .pre .0 .ids-in))) (c .before .before .before .get-entry .ensures) _ (c .before .if2 .left) (c .add .ensures))
 
 returns-3 : tie.Need-returns-3 Inv-loop μ-loop
 returns-3 c =
@@ -55,7 +54,7 @@ node-total-cost-spec =
     (λ c κs. search needs)
     loop-holds
     (λ c κs. search needs)
-    (λ c κs. search needs)
+    (λ c. search needs)
     returns
     (λ c κs. search needs)
     returns-2

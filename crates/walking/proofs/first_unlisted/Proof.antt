@@ -30,7 +30,7 @@ returns-2 c =
     let x = (c .before .before .before .before .before .before .before .before .before .before .args .node) in
     let f = count-kids x (sized x (c .before .before .before .before .before .before .before .before .before .before .good .1 .1 .0)) (c .before .before .before .before .before .before .before .before .before .before .pre .1) in
     let w = (c .before .before .before .before .before .before .before .before .wide .ensures .0) in
-    look-found _ _ _ _ (c .before .before .before .before .before .before .before .loop .i) _ _ (c .before .before .before .before .before .before .before .loop .inv .1) (omega (arith, (c .before .before .before .before .before .before .loop-test .taken))) ((c .before .before .before .before .wide2 .ensures .0) ∙ (c .before .before .before .before .before .child .ensures)) (omega (arith, (c .before .before .if1 .left))) (c .before .before .before .before .before .before .before .before .before .before .pre .0 .ids-in) (c .before .scratch .ensures) (c .if2 .taken)
+    look-found _ _ _ _ (c .before .before .before .before .before .before .before .loop .i) _ _ (c .before .before .before .before .before .before .before .loop .inv .1) (omega (arith, (c .before .before .before .before .before .before .loop-test .taken))) ((c .before .before .before .before .wide2 .ensures .0) ∙ (c .before .before .before .before .before .child .ensures)) (omega (arith, (c .before .before .if1 .left))) (c .before .before .before .before .before .before .before .before .before .before .pre .0 .ids-in) (c .before .scratch .ensures) _ (c .before .before .before .before .wide2 .ensures .0) (c .if2 .taken)
 
 loop-again : tie.Need-loop-again Inv-loop μ-loop
 loop-again c =
