@@ -62,7 +62,7 @@ over x y a b = omega arith
 
 module _ (ws : List ℕ) (h : Head) (q : HeadIs (length ws) (hd ws) h) (c : h .clean ≡ true) where
   -- a graph that these words hold is clean
-  its-clean : (g : Graph) → Holds ws g → g .clean ≡ true
+  pub its-clean : (g : Graph) → Holds ws g → g .clean ≡ true
   its-clean g H = sym (holds-in ws h g q H .clean-is) ∙ c
 
   module _ (r : Total) (T : Totals (view (h .n) (h .m) ws .members) (h .n) (h .ids) r) where

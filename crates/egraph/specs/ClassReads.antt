@@ -18,12 +18,13 @@ use Rattle.language.specs.declared.Id.{Id}
 use Rattle.steps.specs.Classes.{class-nodes, class-roots}
 use Rattle.steps.specs.Graph.{Graph, ids, key-of, node, root}
 use Rattle.closure.specs.Listed.{nodes-from, roots-has}
-use Rattle.cells.specs.Cursor.{Cursor as CellWalk, cursor-low, cursor-start, cursor-step, length-low}
+use Rattle.cells.specs.Cursor.{Cursor as CellWalk, cursor-start, cursor-step, length-low}
 use Rattle.cells.specs.Pool.{row}
 use Rattle.cells.specs.Reading.{Word}
 use Rattle.egraph.specs.Listing.{NoNode}
 use Rattle.egraph.specs.declared.Cursor.{Cursor}
 use Rattle.egraph.specs.declared.NodeAnswer.{NodeAnswer}
+use Rattle.egraph.specs.declared.NodeOut.{NodeOut}
 use Rattle.egraph.specs.declared.NodeOut.the-variants.{NodeIs, NodeNot}
 use Rattle.egraph.specs.declared.NodesRead.{NodesRead}
 use Rattle.egraph.specs.declared.NodesRead.the-variants.{NodesAt, NodesBroken}
@@ -67,9 +68,6 @@ module _ (ws : List ℕ) (h : Head) (g : Graph) (q : HeadIs (length ws) (hd ws) 
 
   pub scratch-clear : view (h .n) (h .m) ws .scratch ≡ replicate (6 * h .n) 0
   scratch-clear = holds-in ws h g q H .scratch
-
-  pub clean-held : h .clean ≡ g .clean
-  clean-held = holds-in ws h g q H .clean-is
 
 -- words of which the scratch part alone has changed
 pub classed-lent : {n m : ℕ} {P : List ℕ → List ℕ → Type 0} {ws ws′ : List ℕ} {h : Head} {g : Graph} → Lent scratch n m P ws ws′ → Classed h (view n m ws) g → Classed h (view n m ws′) g
@@ -129,6 +127,10 @@ pub record RootNode (h : Head) (v : View) (i : ℕ) (r : NodeAnswer) : Type 0 wh
 
 is≢not : {A : Type 0} {q : Refusal} → NodeIs ≡ NodeNot q → A
 is≢not e = zero-one cc
+
+-- what is refused could not be read
+pub root-node-not : {h : Head} {v : View} {i : ℕ} {r : NodeAnswer} → RootNode h v i r → (o : NodeOut) (q : Refusal) → o ≡ r .out → o ≡ NodeNot q → Readable h v i → ⊥
+root-node-not F o q w e R = is≢not (sym (F .done R .0) ∙ (sym w ∙ e))
 
 module _ (h : Head) (v : View) (i : ℕ) where
   -- no node, where none can be read

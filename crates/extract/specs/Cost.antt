@@ -11,7 +11,8 @@ use lib.ListN.{length, replicate}
 use Rattle.language.specs.declared.Id.{Id}
 use Rattle.steps.specs.Graph.{Graph, root}
 use Rattle.egraph.specs.Answers.{Answer, Else, Unless-3, head-of, never, nine, no-by, number-of, yes-with}
-use Rattle.egraph.specs.ClassReads.{KidsKnown, clean-held, scratch-clear}
+use Rattle.egraph.specs.ClassLists.{its-clean}
+use Rattle.egraph.specs.ClassReads.{KidsKnown, scratch-clear}
 use Rattle.egraph.specs.declared.Refusal.the-variants.{BrokenWords}
 use Rattle.holds.specs.Holds.{Holds}
 use Rattle.layout.specs.Cut.{scratch}
@@ -94,7 +95,7 @@ module _ (h : Head) (i : ℕ) (ws : List ℕ) (q : HeadIs (length ws) (hd ws) h)
   cost-blocked b = record { fair = nine; sound = λ g H K. absurd (b (scratch-clear ws h g q H)) }
 
   pub cost-worked : h .clean ≡ true → (r : CostAnswer) (ws1 : List ℕ) → WorksOut h i ws r ws1 → CostOpen ws i r
-  cost-worked c r ws1 W = record { fair = W .fair; sound = λ g H K. W .sound g H (sym (clean-held ws h g q H) ∙ c) K }
+  cost-worked c r ws1 W = record { fair = W .fair; sound = λ g H K. W .sound g H (its-clean ws h q c g H) K }
 
 -- an unknown id, and a known one
 pub far-or-near : (i k : ℕ) → k ≤ i → i < k → ⊥

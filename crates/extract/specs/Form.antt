@@ -16,7 +16,8 @@ use Rattle.language.specs.declared.Id.{Id}
 use Rattle.steps.specs.Classes.{class-nodes, class-roots}
 use Rattle.steps.specs.Graph.{Graph, root}
 use Rattle.egraph.specs.Answers.{Answer, Else, Unless-3, head-of, never, nine, no-by, number-of, yes-with}
-use Rattle.egraph.specs.ClassReads.{Classed, KidsKnown, classed, classed-lent, classed-listed, clean-held, scratch-clear}
+use Rattle.egraph.specs.ClassLists.{its-clean}
+use Rattle.egraph.specs.ClassReads.{Classed, KidsKnown, classed, classed-lent, classed-listed, scratch-clear}
 use Rattle.egraph.specs.declared.Refusal.{Refusal}
 use Rattle.egraph.specs.declared.Refusal.the-variants.{BrokenWords, TooLong}
 use Rattle.eclass.specs.Pieces.{Wrote, pieces}
@@ -283,7 +284,7 @@ module _ (h : Head) (i : ℕ) (ws out : List ℕ) (q : HeadIs (length ws) (hd ws
   form-blocked b = record { fair = fair-nine out; sound = λ g H K. absurd (b (scratch-clear ws h g q H)) }
 
   pub form-worked : h .clean ≡ true → (r : FormAnswer) (ws1 out′ : List ℕ) → FormsOut h i ws out r ws1 out′ → FormOpen ws i out r out′
-  form-worked c r ws1 out′ W = record { fair = W .fair; sound = λ g H K. W .sound g H (sym (clean-held ws h g q H) ∙ c) K }
+  form-worked c r ws1 out′ W = record { fair = W .fair; sound = λ g H K. W .sound g H (its-clean ws h q c g H) K }
 
 -- refused before the work: an answer is none
 pub no-form : (n : ℕ) (q : Refusal) (s k : ℕ) → FormNot q ≡ FormIs s k → k ≤ n

@@ -26,7 +26,7 @@ use Rattle.price.specs.Extract.{table}
 use Rattle.price.specs.Pass.{Best, look}
 use Rattle.price.specs.Size.{AstSize}
 use Rattle.pricing.specs.Costs.{FindsCosts}
-use Rattle.pricing.specs.Entries.{As, EntryAt, Prices, entry-as}
+use Rattle.pricing.specs.Entries.{As, EntryAt, entry-as}
 use Rattle.pricing.specs.Turn.{Scratched}
 use Rattle.pricing.specs.declared.Entry.{Entry}
 use Rattle.pricing.specs.declared.Found.{Found}

@@ -10,11 +10,10 @@ use native.Mathlib.Omega.{arith}
 use lib.ListN.{length}
 use Rattle.lists.specs.Members.{mem-at}
 use Rattle.lists.specs.Reads.{at, map-at}
-use Rattle.lists.specs.Tests.{zero-one}
 use Rattle.language.specs.Struct.{nodeOf}
 use Rattle.language.specs.Term.{Term, over-kids, places, term-path, words}
 use Rattle.steps.specs.Graph.{Graph, ids, node}
-use Rattle.egraph.specs.ClassReads.{Classed, Readable, RootNode, classed-kids, classed-node, root-node-in}
+use Rattle.egraph.specs.ClassReads.{Classed, Readable, RootNode, classed-kids, classed-node, root-node-in, root-node-not}
 use Rattle.egraph.specs.declared.NodeAnswer.{NodeAnswer}
 use Rattle.egraph.specs.declared.NodeOut.{NodeOut}
 use Rattle.egraph.specs.declared.NodeOut.the-variants.{NodeIs, NodeNot}
@@ -77,9 +76,6 @@ module _ (n : ℕ) (ss : List ℕ) (p c : ℕ) (L : Loaded ss (4 * n + p) c) whe
 
 -- ---- the node
 
-is≢not : {A : Type 0} {q : Refusal} → NodeIs ≡ NodeNot q → A
-is≢not e = zero-one cc
-
 module _ (h : Head) (v : View) (p w : ℕ) (M : MarkAt (h .n) (v .scratch) p w) where
   -- the mark that was read, where nothing leads astray
   its-mark : FineNode h v p → w ≡ mark-of (v .scratch) (h .n) p
@@ -95,7 +91,7 @@ module _ (h : Head) (v : View) (p w : ℕ) (M : MarkAt (h .n) (v .scratch) p w) 
     pub node-unread : (o : NodeOut) (k : Refusal) → o ≡ f .out → o ≡ NodeNot k → (r : Placed) → NoNode r → NodeAt h v p r
     node-unread o k eo q r N = record {
       few = N .few;
-      done = λ F. is≢not (sym (K .done (rw mark (F .readable)) .0) ∙ (sym eo ∙ q));
+      done = λ F. absurd (root-node-not K o k eo q (rw mark (F .readable)));
       only = λ e. not-done r N e;
     }
 

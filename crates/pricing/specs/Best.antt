@@ -15,11 +15,11 @@ use Rattle.language.specs.Struct.{nodeOf}
 use Rattle.language.specs.Term.{Term}
 use Rattle.steps.specs.Classes.{class-nodes}
 use Rattle.steps.specs.Graph.{Graph, ids, key-of}
-use Rattle.egraph.specs.ClassReads.{ClassNodes, Classed, Known, Previous, RootNode, Stands, classed-kids, stands-few, stands-known, stands-node}
+use Rattle.egraph.specs.ClassReads.{ClassNodes, Classed, Known, Previous, RootNode, Stands, classed-kids, classed-node, root-node-not, stands-few, stands-known, stands-node}
 use Rattle.egraph.specs.declared.Cursor.{Cursor}
 use Rattle.egraph.specs.declared.NodeAnswer.{NodeAnswer}
 use Rattle.egraph.specs.declared.NodeOut.{NodeOut}
-use Rattle.egraph.specs.declared.NodeOut.the-variants.{NodeIs, NodeNot}
+use Rattle.egraph.specs.declared.NodeOut.the-variants.{NodeNot}
 use Rattle.egraph.specs.declared.NodesRead.{NodesRead}
 use Rattle.egraph.specs.declared.NodesRead.the-variants.{NodesAt, NodesBroken}
 use Rattle.egraph.specs.declared.Refusal.{Refusal}
@@ -100,10 +100,7 @@ broken-is e q = zero-one cc
 
 module _ (h : Head) (id : ℕ) (b : Entry) (v : View) (f : NodeAnswer) (F : RootNode h v id f) where
   pub better-unread : (o : NodeOut) (k : Refusal) → o ≡ f .out → o ≡ NodeNot k → Betters h id b v ChosenBroken
-  better-unread o k w q = record { low = λ e p. broken-is e p; law = λ g t o C P lt M. absurd (apart (F .sound g C lt .0)) }
-    where
-      apart : f .out ≡ NodeIs → ⊥
-      apart d = zero-one (cc (sym d ∙ (sym w ∙ q)))
+  better-unread o k w q = record { low = λ e p. broken-is e p; law = λ g t m C P lt M. absurd (root-node-not F o k w q (classed-node C id lt .0)) }
 
   module _ (c : NodeCost) (N : CostsNode (h .n) (h .ids) (v .scratch) (nodeOf (f .node)) c) where
     -- the price of the node, as the table gives it

@@ -14,7 +14,7 @@ use Rattle.steps.specs.Classes.{class-nodes, class-roots, total-number-of-nodes
 use Rattle.steps.specs.Graph.{Graph, ids, root}
 use Rattle.egraph.specs.Answers.{count-says, never, number-of}
 use Rattle.egraph.specs.ClassLists.{TotalSays, total-held}
-use Rattle.egraph.specs.ClassReads.{Classed, KidsKnown, classed, classed-ids, classed-lent, classed-listed, scratch-clear}
+use Rattle.egraph.specs.ClassReads.{KidsKnown, classed, classed-ids, classed-lent, classed-listed, scratch-clear}
 use Rattle.egraph.specs.declared.CountAnswer.{CountAnswer}
 use Rattle.egraph.specs.declared.CountAnswer.the-variants.{CountNot}
 use Rattle.egraph.specs.declared.Refusal.{Refusal}

@@ -16,17 +16,17 @@ use Rattle.language.specs.Struct.{nodeOf}
 use Rattle.language.specs.Term.{Term}
 use Rattle.language.specs.declared.Id.{Id}
 use Rattle.steps.specs.Graph.{Graph, ids, key-of}
-use Rattle.egraph.specs.ClassReads.{Classed, KidsIn, RootNode, classed-kids}
+use Rattle.egraph.specs.ClassReads.{Classed, KidsIn, RootNode, classed-kids, classed-node, root-node-not}
 use Rattle.egraph.specs.declared.NodeAnswer.{NodeAnswer}
 use Rattle.egraph.specs.declared.NodeOut.{NodeOut}
-use Rattle.egraph.specs.declared.NodeOut.the-variants.{NodeIs, NodeNot}
+use Rattle.egraph.specs.declared.NodeOut.the-variants.{NodeNot}
 use Rattle.egraph.specs.declared.Refusal.{Refusal}
 use Rattle.layout.specs.Lent.{Loaded}
 use Rattle.layout.specs.View.{View}
 use Rattle.layout.specs.declared.Head.{Head}
 use Rattle.price.specs.Listing.{Listing, spot}
 use Rattle.price.specs.Pass.{Best, Table, look}
-use Rattle.pricing.specs.Entries.{As, EntryAt, Names, Prices, entry-as}
+use Rattle.pricing.specs.Entries.{EntryAt, Names, Prices, entry-as}
 use Rattle.pricing.specs.Laid.{place-word}
 use Rattle.pricing.specs.declared.Entry.{Entry}
 use Rattle.walking.specs.Way.{or-else, unlisted}
@@ -111,24 +111,23 @@ module _ (h : Head) (c : ℕ) (v : View) (e : Entry) (hc : c < h .n) (E : EntryA
 
   -- the node of the id that the mark names is the chosen node
   module _ (some-mark : e .mark ≢ 0) (f : NodeAnswer) (F : RootNode h v (e .mark - 1) f) where
+    known : (g : Graph) (t : Table ℕ) (b : Best ℕ) → Prices g (h .n) (v .scratch) t → look c t ≡ some b → e .mark - 1 < ids g
+    known g t b P q = let N = named g t b P q in omega (arith, N .marked, N .known)
+
     node-is : (g : Graph) (t : Table ℕ) (b : Best ℕ) → Classed h v g → Prices g (h .n) (v .scratch) t → look c t ≡ some b
-        → (f .out ≡ NodeIs) × (nodeOf (f .node) ≡ b .node) × KidsIn (h .ids) (b .node)
+        → (nodeOf (f .node) ≡ b .node) × KidsIn (h .ids) (b .node)
     node-is g t b C P q =
         let N = named g t b P q in
         let i : e .mark - 1 ≡ N .id = omega (arith, N .marked) in
-        let l : e .mark - 1 < ids g = omega (arith, N .known) in
+        let l = known g t b P q in
         let w : key-of g (e .mark - 1) ≡ b .node = ap (key-of g) i ∙ N .node-is in
-        let k = F .sound g C l in
-        (k .0, k .1 ∙ w, rw (← w) (classed-kids C (e .mark - 1) l))
+        (F .sound g C l .1 ∙ w, rw (← w) (classed-kids C (e .mark - 1) l))
 
     pub next-unread : (o : NodeOut) (k : Refusal) → o ≡ f .out → o ≡ NodeNot k → NextKidOf h c v NextKidBroken
-    next-unread o k w q = record { low = λ x p. broken-is x p; law = λ g t b l C P u D. absurd (apart (node-is g t b C P u .0)) }
-      where
-        apart : f .out ≡ NodeIs → ⊥
-        apart d = zero-one (cc (sym d ∙ (sym w ∙ q)))
+    next-unread o k w q = record { low = λ x p. broken-is x p; law = λ g t b l C P u D. absurd (root-node-not F o k w q (classed-node C (e .mark - 1) (known g t b P u) .0)) }
 
     pub next-done : (r : NextKid) → FirstKid (h .n) (h .ids) (v .scratch) (nodeOf (f .node)) r → NextKidOf h c v r
     next-done r K = record {
       low = K .low;
-      law = λ g t b l C P u D. let k = node-is g t b C P u in subst (λ (x : Term). r ≡ told (unlisted l (x .kids))) (k .1) (K .law l D (rw (k .1) (k .2)));
+      law = λ g t b l C P u D. let k = node-is g t b C P u in subst (λ (x : Term). r ≡ told (unlisted l (x .kids))) (k .0) (K .law l D (rw (k .0) (k .1)));
     }
