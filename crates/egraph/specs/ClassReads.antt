@@ -234,22 +234,23 @@ pub record StoodAt (N left id : ℕ) (r : NodesRead) : Type 0 where
 broken≢at : {A : Type 0} {cur : Cursor} → NodesBroken ≡ NodesAt cur → A
 broken≢at e = zero-one cc
 
-pub stood-end : (N left id : ℕ) (x : Id) → left ≡ 0 → StoodAt N left id (NodesAt (record { left = left; id = x }))
-stood-end N left id x z = record {
-  count = λ cur e. let p : record { left = left; id = x } ≡ cur = cc in ap (λ (y : Cursor). y .left) (sym p);
-  next = λ cur e s. absurd (omega arith);
-  lost = λ e. broken≢at (sym e);
-}
+module _ (N left : ℕ) (x : Id) where
+  pub stood-end : left ≡ 0 → StoodAt N left (x .0) (NodesAt (record { left = left; id = x }))
+  stood-end z = record {
+    count = λ cur e. let p : record { left = left; id = x } ≡ cur = cc in ap (λ (y : Cursor). y .left) (sym p);
+    next = λ cur e s. absurd (omega arith);
+    lost = λ e. broken≢at (sym e);
+  }
 
-pub stood-lost : (N left id : ℕ) → left ≢ 0 → N ≤ id → StoodAt N left id NodesBroken
-stood-lost N left id s off = record { count = λ cur e. broken≢at e; next = λ cur e. broken≢at e; lost = λ _. (omega arith, off) }
+  pub stood-lost : left ≢ 0 → N ≤ x .0 → StoodAt N left (x .0) NodesBroken
+  stood-lost s off = record { count = λ cur e. broken≢at e; next = λ cur e. broken≢at e; lost = λ _. (omega arith, off) }
 
-pub stood-next : (N left id : ℕ) → id < N → StoodAt N left id (NodesAt (record { left = left; id = record { 0 = id } }))
-stood-next N left id l = record {
-  count = λ cur e. let p : record { left = left; id = record { 0 = id } } ≡ cur = cc in ap (λ (y : Cursor). y .left) (sym p);
-  next = λ cur e s. let p : record { left = left; id = record { 0 = id } } ≡ cur = cc in (ap (λ (y : Cursor). y .id .0) (sym p), l);
-  lost = λ e. broken≢at (sym e);
-}
+  pub stood-next : x .0 < N → StoodAt N left (x .0) (NodesAt (record { left = left; id = x }))
+  stood-next l = record {
+    count = λ cur e. let p : record { left = left; id = x } ≡ cur = cc in ap (λ (y : Cursor). y .left) (sym p);
+    next = λ cur e s. let p : record { left = left; id = x } ≡ cur = cc in (ap (λ (y : Cursor). y .id .0) (sym p), l);
+    lost = λ e. broken≢at (sym e);
+  }
 
 -- a walk over cells, as a cursor has it
 module _ (h : Head) (v : View) (c left id : ℕ) (r : NodesRead) (T : StoodAt (h .ids) left id r) where

@@ -1,6 +1,6 @@
 // What an extraction reads of a clean graph, with the head h read before: the nodes of a class, from the last back in node order, and the node of an id with root
 // children. Nothing is written, and what stands in the scratch part makes no difference.
-ghost use Prim.Native.Nat.{_<_, _^_};
+ghost use Prim.Native.Nat.{_<_};
 ghost use lib.ListN.{length};
 ghost use Rattle.layout.specs.Head.{HeadOk};
 ghost use Rattle.layout.specs.View.{view};
@@ -37,19 +37,15 @@ pub fn root_node(ws: &[u32], h: Head, id: Id) -> NodeAnswer
     }
 }
 
-// A cursor with `left` nodes to come, the next of them that of the id in a word; with none to come the word says nothing.
-fn stand(h: Head, left: usize, word: usize) -> NodesRead
-    requires { ⌜ word < 2 ^ 32 ⌝ }
-    ensures { λ r. ⌜ StoodAt (h .ids) left word r ⌝ }
+// A cursor with `left` nodes to come, the next of them that of an id; with none to come the id says nothing.
+fn stand(h: Head, left: usize, id: Id) -> NodesRead
+    ensures { λ r. ⌜ StoodAt (h .ids) left (id .0) r ⌝ }
 {
-    let at = Cursor {
-        left: left,
-        id: Id(word as u32),
-    };
+    let at = Cursor { left, id };
     if left == 0 {
         return NodesRead::NodesAt(at);
     }
-    if h.ids <= word {
+    if h.ids <= id.0 as usize {
         return NodesRead::NodesBroken;
     }
     NodesRead::NodesAt(at)
@@ -61,13 +57,12 @@ pub fn class_nodes(ws: &[u32], h: Head, c: Id) -> NodesRead
     requires { ⌜ c .0 < h .n ⌝ }
     ensures { λ r. ⌜ ClassNodes h (view (h .n) (h .m) (now (ws .entry))) (c .0) r ⌝ }
 {
-    let list = c.0 as usize;
-    let left = parts::on_members::len(ws, h, list);
+    let left = parts::on_members::len(ws, h, c);
     if h.n < left {
         return NodesRead::NodesBroken;
     }
-    let word = parts::on_members::last(ws, h, list);
-    stand(h, left, word)
+    let last = parts::on_members::last(ws, h, c);
+    stand(h, left, last)
 }
 
 // One node further back.
@@ -76,6 +71,6 @@ pub fn previous(ws: &[u32], h: Head, at: Cursor) -> NodesRead
     requires { ⌜ (0 < at .left) × (at .id .0 < h .n) ⌝ }
     ensures { λ r. ⌜ Previous h (view (h .n) (h .m) (now (ws .entry))) at r ⌝ }
 {
-    let word = parts::on_members::link(ws, h, at.id.0 as usize);
-    stand(h, at.left - 1, word)
+    let id = parts::on_members::link(ws, h, at.id);
+    stand(h, at.left - 1, id)
 }
