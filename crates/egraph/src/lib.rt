@@ -119,6 +119,7 @@ pub use class_lists::classes;
 pub use class_lists::classes_for_op;
 pub use class_lists::total_number_of_nodes;
 
+// No open calls: what an extraction reads, with a head that it has read.
 pub mod class_reads;
 
 pub use class_reads::class_nodes;
