@@ -3,8 +3,8 @@ use native.Mathlib.Omega.{arith}
 use Rattle.parts.specs.Bare.{bare-top}
 use Rattle.taking.specs.Take.{take-many, take-none, take-one}
 use borrow.Author.Needs.{needs}
-use Rattle.taking.proofs.take.Statement.{statement}
-use Rattle.taking.proofs.take.Tie as tie
+use Rattle.taking.proofs.takes.take.Statement.{statement}
+use Rattle.taking.proofs.takes.take.Tie as tie
 
 returns : tie.Need-returns
 returns c = take-none _ _ (c .before .before .pre) (c .if1 .taken)

@@ -3,8 +3,8 @@ use borrow.Author.Needs.{needs}
 use mathlib.Core.Path.{_∙_, _≡_, refl}
 use lib.ListN.{length}
 use Rattle.taking.specs.Drain.{Going, drain-broken, drain-done, drain-spent, going-ok, going-on, going-start}
-use Rattle.taking.proofs.drain_within.Statement.{statement}
-use Rattle.taking.proofs.drain_within.Tie as tie
+use Rattle.taking.proofs.drains.drain_within.Statement.{statement}
+use Rattle.taking.proofs.drains.drain_within.Tie as tie
 
 abbrev Inv-loop : tie.InvT-loop
 Inv-loop ws₀ fuel k₀ left₀ yes₀ taken₀ ws k left yes' taken = (length ws ≡ length ws₀) × Going k₀ fuel ws₀ k ws left yes' taken

@@ -1,7 +1,7 @@
 use Rattle.taking.specs.Settle.{settle-done, settle-stuck, settle-torn}
 use borrow.Author.Needs.{needs}
-use Rattle.taking.proofs.settle.Statement.{statement}
-use Rattle.taking.proofs.settle.Tie as tie
+use Rattle.taking.proofs.keys.settle.Statement.{statement}
+use Rattle.taking.proofs.keys.settle.Tie as tie
 
 vacate-requires : tie.Need-vacate-requires
 vacate-requires c κs = search needs

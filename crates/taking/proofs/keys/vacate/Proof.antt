@@ -1,8 +1,8 @@
 use mathlib.Core.Path.{refl}
 use Rattle.taking.specs.Leave.{vacate-broken, vacate-left}
 use borrow.Author.Needs.{needs}
-use Rattle.taking.proofs.vacate.Statement.{statement}
-use Rattle.taking.proofs.vacate.Tie as tie
+use Rattle.taking.proofs.keys.vacate.Statement.{statement}
+use Rattle.taking.proofs.keys.vacate.Tie as tie
 
 key-requires : tie.Need-key-requires
 key-requires c κs = search needs

@@ -1,7 +1,7 @@
 use Rattle.taking.specs.Entry.{entry-asks, entry-broken, entry-no, entry-none, entry-torn, entry-yes}
 use borrow.Author.Needs.{needs}
-use Rattle.taking.proofs.one_entry.Statement.{statement}
-use Rattle.taking.proofs.one_entry.Tie as tie
+use Rattle.taking.proofs.drains.one_entry.Statement.{statement}
+use Rattle.taking.proofs.drains.one_entry.Tie as tie
 
 take-requires : tie.Need-take-requires
 take-requires c κs = search needs

@@ -1,7 +1,7 @@
 use Rattle.taking.specs.Take.{last-broken, last-done}
 use borrow.Author.Needs.{needs}
-use Rattle.taking.proofs.take_last.Statement.{statement}
-use Rattle.taking.proofs.take_last.Tie as tie
+use Rattle.taking.proofs.takes.take_last.Statement.{statement}
+use Rattle.taking.proofs.takes.take_last.Tie as tie
 
 returns : tie.Need-returns
 returns c = last-broken _ _ (c .before .before .pre .0) _ _ (c .before .before .pre .1 .0, c .before .before .pre .1 .1) (c .if1 .taken)

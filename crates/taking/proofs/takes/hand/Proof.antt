@@ -1,8 +1,8 @@
 use borrow.Author.Needs.{needs}
 use native.Mathlib.Omega.{arith}
 use Rattle.taking.specs.Take.{hand-known, hand-unknown}
-use Rattle.taking.proofs.hand.Statement.{statement}
-use Rattle.taking.proofs.hand.Tie as tie
+use Rattle.taking.proofs.takes.hand.Statement.{statement}
+use Rattle.taking.proofs.takes.hand.Tie as tie
 
 returns : tie.Need-returns
 returns c = hand-unknown _ _ _ (c .if1 .taken)

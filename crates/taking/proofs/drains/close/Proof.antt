@@ -1,7 +1,7 @@
 use Rattle.taking.specs.Close.{close-asks, close-broken, close-new, close-no, close-torn, close-yes}
 use borrow.Author.Needs.{needs}
-use Rattle.taking.proofs.close.Statement.{statement}
-use Rattle.taking.proofs.close.Tie as tie
+use Rattle.taking.proofs.drains.close.Statement.{statement}
+use Rattle.taking.proofs.drains.close.Tie as tie
 
 rekey-requires : tie.Need-rekey-requires
 rekey-requires c κs = search needs

@@ -1,8 +1,8 @@
 use native.Mathlib.Omega.{arith}
 use Rattle.taking.specs.Leave.{oust-absent, oust-broken, oust-done, oust-none, oust-torn, oust-unknown}
 use borrow.Author.Needs.{needs}
-use Rattle.taking.proofs.oust.Statement.{statement}
-use Rattle.taking.proofs.oust.Tie as tie
+use Rattle.taking.proofs.keys.oust.Statement.{statement}
+use Rattle.taking.proofs.keys.oust.Tie as tie
 
 ask-requires : tie.Need-ask-requires
 ask-requires c κs = search needs

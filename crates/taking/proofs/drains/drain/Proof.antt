@@ -2,8 +2,8 @@ use native.Mathlib.Omega.{arith}
 use mathlib.Core.Path.{refl}
 use Rattle.taking.specs.Enough.{drains-all, enough-fits}
 use borrow.Author.Needs.{needs}
-use Rattle.taking.proofs.drain.Statement.{statement}
-use Rattle.taking.proofs.drain.Tie as tie
+use Rattle.taking.proofs.drains.drain.Statement.{statement}
+use Rattle.taking.proofs.drains.drain.Tie as tie
 
 add-fuel : tie.Need-add-fuel
 add-fuel c = search needs

@@ -1,7 +1,7 @@
 use Rattle.taking.specs.Rekey.{rekey-done, rekey-lost, rekey-stuck}
 use borrow.Author.Needs.{needs}
-use Rattle.taking.proofs.rekey.Statement.{statement}
-use Rattle.taking.proofs.rekey.Tie as tie
+use Rattle.taking.proofs.keys.rekey.Statement.{statement}
+use Rattle.taking.proofs.keys.rekey.Tie as tie
 
 fresh-key-requires : tie.Need-fresh-key-requires
 fresh-key-requires c κs = search needs

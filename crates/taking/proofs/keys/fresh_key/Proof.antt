@@ -1,7 +1,7 @@
 use Rattle.taking.specs.Fresh.{fresh-broken, fresh-done, fresh-unknown}
 use borrow.Author.Needs.{needs}
-use Rattle.taking.proofs.fresh_key.Statement.{statement}
-use Rattle.taking.proofs.fresh_key.Tie as tie
+use Rattle.taking.proofs.keys.fresh_key.Statement.{statement}
+use Rattle.taking.proofs.keys.fresh_key.Tie as tie
 
 given-requires : tie.Need-given-requires
 given-requires c κs = search needs
