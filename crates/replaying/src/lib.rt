@@ -32,7 +32,8 @@ pub struct Progress {
     pub unwritten: bool,
 }
 
-pub mod calls;
-pub mod input;
+mod calls;
+mod input;
+mod replies;
 
 pub use input::run;

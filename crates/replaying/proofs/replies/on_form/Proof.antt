@@ -1,8 +1,8 @@
 use mathlib.Core.Path.{ap, sym, _∙_}
 use Rattle.replaying.specs.Replies.{alone, form-told}
 use borrow.Author.Needs.{needs}
-use Rattle.replaying.proofs.calls.on_form.Statement.{statement}
-use Rattle.replaying.proofs.calls.on_form.Tie as tie
+use Rattle.replaying.proofs.replies.on_form.Statement.{statement}
+use Rattle.replaying.proofs.replies.on_form.Tie as tie
 
 returns : tie.Need-returns
 returns c = ap form-told (sym (c .before .a .given .1))

@@ -1,8 +1,8 @@
 use mathlib.Core.Path.{ap, sym, _∙_}
 use Rattle.replaying.specs.Replies.{find-reply}
 use borrow.Author.Needs.{needs}
-use Rattle.replaying.proofs.calls.on_find.Statement.{statement}
-use Rattle.replaying.proofs.calls.on_find.Tie as tie
+use Rattle.replaying.proofs.replies.on_find.Statement.{statement}
+use Rattle.replaying.proofs.replies.on_find.Tie as tie
 
 returns : tie.Need-returns
 returns c = ap find-reply (sym (c .before .before .a .given .1))

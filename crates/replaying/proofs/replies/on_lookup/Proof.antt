@@ -1,8 +1,8 @@
 use mathlib.Core.Path.{ap, sym, _∙_}
 use Rattle.replaying.specs.Replies.{lookup-reply}
 use borrow.Author.Needs.{needs}
-use Rattle.replaying.proofs.calls.on_lookup.Statement.{statement}
-use Rattle.replaying.proofs.calls.on_lookup.Tie as tie
+use Rattle.replaying.proofs.replies.on_lookup.Statement.{statement}
+use Rattle.replaying.proofs.replies.on_lookup.Tie as tie
 
 returns : tie.Need-returns
 returns c = ap lookup-reply (sym (c .before .before .a .given .1))

@@ -1,8 +1,8 @@
 use mathlib.Core.Path.{ap, sym, _∙_}
 use Rattle.replaying.specs.Replies.{count-reply}
 use borrow.Author.Needs.{needs}
-use Rattle.replaying.proofs.calls.on_count.Statement.{statement}
-use Rattle.replaying.proofs.calls.on_count.Tie as tie
+use Rattle.replaying.proofs.replies.on_count.Statement.{statement}
+use Rattle.replaying.proofs.replies.on_count.Tie as tie
 
 returns : tie.Need-returns
 returns c = ap count-reply (sym (c .before .a .given .1))

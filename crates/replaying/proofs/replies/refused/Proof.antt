@@ -1,8 +1,8 @@
 use mathlib.Core.Path.{ap, sym}
 use Rattle.replaying.specs.Replies.{refusal-reply}
 use borrow.Author.Needs.{needs}
-use Rattle.replaying.proofs.calls.refused.Statement.{statement}
-use Rattle.replaying.proofs.calls.refused.Tie as tie
+use Rattle.replaying.proofs.replies.refused.Statement.{statement}
+use Rattle.replaying.proofs.replies.refused.Tie as tie
 
 returns : tie.Need-returns
 returns c = ap refusal-reply (sym (c .enum-told .given .1))

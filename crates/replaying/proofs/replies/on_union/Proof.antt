@@ -1,8 +1,8 @@
 use mathlib.Core.Path.{ap, sym, _∙_}
 use Rattle.replaying.specs.Replies.{union-reply}
 use borrow.Author.Needs.{needs}
-use Rattle.replaying.proofs.calls.on_union.Statement.{statement}
-use Rattle.replaying.proofs.calls.on_union.Tie as tie
+use Rattle.replaying.proofs.replies.on_union.Statement.{statement}
+use Rattle.replaying.proofs.replies.on_union.Tie as tie
 
 returns-3 : tie.Need-returns-3
 returns-3 c = c .refused .ensures ∙ ap union-reply (sym (c .before .before .a .given .1))

@@ -1,8 +1,8 @@
 use mathlib.Core.Path.{ap, sym, _∙_}
 use Rattle.replaying.specs.Replies.{cost-reply}
 use borrow.Author.Needs.{needs}
-use Rattle.replaying.proofs.calls.on_cost.Statement.{statement}
-use Rattle.replaying.proofs.calls.on_cost.Tie as tie
+use Rattle.replaying.proofs.replies.on_cost.Statement.{statement}
+use Rattle.replaying.proofs.replies.on_cost.Tie as tie
 
 returns : tie.Need-returns
 returns c = ap cost-reply (sym (c .before .a .given .1))
