@@ -1,4 +1,4 @@
--- A walk from the end of a list, whatever the test at each cell is: the invariants of such a loop over `len`, `last`, `link` or `back`.
+-- A walk from the end of a list, whatever the test at each cell is: the invariants of such a loop over `len`, `last` and `link`.
 -- `left` cells are still to come, and the next of them is `cur`; of the cells passed none has T. The walk knows no lists, so each holds for all.
 -- Assumes nothing.
 use mathlib.Core.List.{List}

@@ -1,4 +1,4 @@
--- What the functions that only read promise: `len`, `last` and `link` a word, `back` the cell before a cell, `nth` the cell that k others follow.
+-- What the functions that only read promise: `len`, `last` and `link` a word, `nth` the cell that k others follow.
 -- Assumes nothing.
 use mathlib.Core.List.{List}
 use mathlib.Core.Path.{_∙_, _≡_, ap, refl, sym}
@@ -9,7 +9,7 @@ use Rattle.lists.specs.Reads.{at}
 use Rattle.lists.specs.Tests.{zero-one}
 use Rattle.cells.specs.Pool.{Pool, row}
 use Rattle.cells.specs.Rows.{fits}
-use Rattle.cells.specs.Stretch.{Part, part-link, part-list, part-low}
+use Rattle.cells.specs.Stretch.{part-list}
 use Rattle.cells.specs.Trail.{trail, trail-inside, trail-part}
 use Rattle.cells.specs.declared.Cell.{Cell}
 use Rattle.cells.specs.declared.Cell.the-variants.{CellAt, CellBroken}
@@ -18,35 +18,6 @@ use Rattle.cells.specs.declared.Cell.the-variants.{CellAt, CellBroken}
 pub record Word (ws : List ℕ) (i r : ℕ) : Type 0 where
   pub exact : r ≡ at ws i
   pub small : r < 2 ^ 32
-
--- ---- one step back from cell c
-
-pub record Stepped (ws : List ℕ) (n m c : ℕ) (r : Cell) : Type 0 where
-  pub exact : at ws (n + n + n + c) < m → r ≡ CellAt (at ws (n + n + n + c))
-  pub stray : m ≤ at ws (n + n + n + c) → r ≡ CellBroken
-  pub inside : (x : ℕ) → r ≡ CellAt x → (x < m) × (x ≡ at ws (n + n + n + c))
-  pub broken : r ≡ CellBroken → m ≤ at ws (n + n + n + c)
-  pub law : (L : List (List ℕ)) (xs : List ℕ) → Pool ws n m L → Part L xs → (i : ℕ) → suc i < length xs → at xs (suc i) ≡ c → r ≡ CellAt (at xs i)
-
-module _ (ws : List ℕ) (n m c w : ℕ) (e : w ≡ at ws (n + n + n + c)) where
-  pub stepped : w < m → Stepped ws n m c (CellAt w)
-  stepped h = record {
-    exact = λ _. ap CellAt e;
-    stray = λ l. absurd (omega arith);
-    inside = λ x (f : CellAt w ≡ CellAt x). let z : w ≡ x = cc in (rw (← z) h, sym z ∙ e);
-    broken = λ (f : CellAt w ≡ CellBroken). zero-one cc;
-    law = λ L xs p q i h f. ap CellAt (e ∙ ap (λ (z : ℕ). at ws (n + n + n + z)) (sym f) ∙ part-link ws n m L xs p q i h);
-  }
-
-  pub stepped-off : m ≤ w → Stepped ws n m c CellBroken
-  stepped-off h = record {
-    exact = λ l. absurd (omega arith);
-    stray = λ _. refl;
-    inside = λ x (f : CellBroken ≡ CellAt x). zero-one cc;
-    broken = λ _. rw (← e) h;
-    law = λ L xs p q i l f. let g = e ∙ ap (λ (z : ℕ). at ws (n + n + n + z)) (sym f) ∙ part-link ws n m L xs p q i l in
-        absurd (omega (arith, g, part-low ws n m L xs p q i (omega arith)));
-  }
 
 -- ---- the cell of list a that k others follow
 

@@ -16,7 +16,7 @@ ghost use Rattle.cells.specs.Writes.{pick};
 ghost use Rattle.cells.specs.Trail.{trail};
 ghost use Rattle.cells.specs.Changes.{Room, Pushed, Joined};
 ghost use Rattle.cells.specs.Empty.{Emptied, Cleared};
-ghost use Rattle.cells.specs.Reading.{Word, Stepped, Reached};
+ghost use Rattle.cells.specs.Reading.{Word, Reached};
 ghost use Rattle.cells.specs.Cuts.{Seen, Removed};
 
 // What a change answers: done, or words that no calls could have produced.
@@ -141,19 +141,6 @@ pub fn link(ws: &[u32], lists: usize, cells: usize, cell: usize) -> usize
 {
     let p = lists + lists + lists + cell;
     wide(ws[p])
-}
-
-// One step back from a cell that is not the first of its list.
-pub fn back(ws: &[u32], lists: usize, cells: usize, cell: usize) -> Cell
-    requires { ⌜ Room (now ws) lists cells ⌝ }
-    requires { ⌜ cell < cells ⌝ }
-    ensures { λ r. ⌜ Stepped (now (ws .entry)) lists cells cell r ⌝ }
-{
-    let x = link(ws, lists, cells, cell);
-    if x >= cells {
-        return Cell::CellBroken;
-    }
-    Cell::CellAt(x)
 }
 
 // k steps back from a cell.
