@@ -51,7 +51,7 @@ pub fn row_length() -> usize
     PLACES
 }
 
-pub fn order_words(a: u32, b: u32) -> Ordering
+fn order_words(a: u32, b: u32) -> Ordering
     ensures { λ r. ⌜ r ≡ compare a b ⌝ }
 {
     if a < b {

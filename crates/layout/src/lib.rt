@@ -69,7 +69,7 @@ fn load(ws: &[u32], i: usize) -> usize
 }
 
 // Sets every word of the slice to 0.
-pub fn zero(ws: &mut [u32])
+fn zero(ws: &mut [u32])
     ensures { λ _. ⌜ now (ws .exit) ≡ replicate (length (now (ws .entry))) 0 ⌝ }
 {
     let mut i = 0;

@@ -3,13 +3,13 @@
 // answered to `put_reply`.
 
 // A line of more bytes is no call.
-pub const LONGEST: usize = 4096;
+const LONGEST: usize = 4096;
 
 // A line of more numbers is no call: room for 22 children, of which more than eight are refused by the call.
 pub const NUMBERS: usize = 24;
 
 // The count of a row that is none.
-pub const TOO_MANY: usize = 25;
+const TOO_MANY: usize = 25;
 
 // The names of the calls are the Rust's. A line that is to be passed over is VerbSkip; one that is no call is VerbBad.
 pub enum Verb {
@@ -56,31 +56,31 @@ pub enum Reply {
 }
 
 // A field as a number, if it is one.
-pub enum Num {
+enum Num {
     NumIs(u32),
     NumNot,
 }
 
 // The numbers of all fields. The count TOO_MANY says that a field is no number, or that there are more than NUMBERS.
-pub struct Row {
-    pub count: usize,
-    pub values: [u32; NUMBERS],
+struct Row {
+    count: usize,
+    values: [u32; NUMBERS],
 }
 
 // A verb, and the least and the most numbers that it takes.
-pub struct Shape {
-    pub verb: Verb,
-    pub least: usize,
-    pub most: usize,
+struct Shape {
+    verb: Verb,
+    least: usize,
+    most: usize,
 }
 
-pub mod fields;
-pub mod lines;
-pub mod verbs;
+mod fields;
+mod lines;
+mod verbs;
 
 pub use lines::keep;
 pub use lines::parse;
 
-pub mod replies;
+mod replies;
 
 pub use replies::put_reply;

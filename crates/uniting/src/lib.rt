@@ -26,7 +26,7 @@ pub enum United {
 }
 
 // The class of the root `lose` goes into that of the root `stay`.
-pub fn merge(ws: &mut [u32], h: Head, stay: Id, lose: Id) -> Stepped
+fn merge(ws: &mut [u32], h: Head, stay: Id, lose: Id) -> Stepped
     requires { ⌜ HeadOk (length (now ws)) h ⌝ }
     requires { ⌜ (stay .0 < h .ids) × (lose .0 < h .ids) × (stay .0 ≢ lose .0) ⌝ }
     ensures { λ r. ⌜ MergeSays h (stay .0) (lose .0) (now (ws .entry)) r (now (ws .exit)) ⌝ }
@@ -67,7 +67,7 @@ pub fn merge(ws: &mut [u32], h: Head, stay: Id, lose: Id) -> Stepped
 }
 
 // Two roots that differ: the first stays unless its parent list is strictly shorter.
-pub fn join_roots(ws: &mut [u32], h: Head, a: Id, b: Id) -> Stepped
+fn join_roots(ws: &mut [u32], h: Head, a: Id, b: Id) -> Stepped
     requires { ⌜ HeadOk (length (now ws)) h ⌝ }
     requires { ⌜ (a .0 < h .ids) × (b .0 < h .ids) × (a .0 ≢ b .0) ⌝ }
     ensures { λ r. ⌜ JoinSays h (a .0) (b .0) (now (ws .entry)) r (now (ws .exit)) ⌝ }
