@@ -10,7 +10,7 @@
 // the last and the first cell of an empty list. A cell is in one list at most. specs/Pool.antt says which lists the words hold.
 ghost use mathlib.Core.Path.{_≡_};
 ghost use mathlib.Core.Logic.{_≢_};
-ghost use Prim.Native.Nat.{ℕ, _+_, _≤_, _<_, _^_};
+ghost use Prim.Native.Nat.{_+_, _≤_, _<_, _^_};
 ghost use lib.ListN.{length};
 ghost use Rattle.cells.specs.Writes.{pick};
 ghost use Rattle.cells.specs.Trail.{trail};

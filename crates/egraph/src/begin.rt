@@ -1,9 +1,8 @@
 // `setup`: words that hold the fresh graph.
-ghost use mathlib.Core.Path.{_≡_};
 ghost use Prim.Native.Nat.{_<_, _≤_};
 ghost use lib.ListN.{length};
 ghost use Rattle.layout.specs.Cut.{need};
-ghost use Rattle.layout.specs.Head.{Fits, HeadOk};
+ghost use Rattle.layout.specs.Head.{Fits};
 ghost use Rattle.egraph.specs.Setup.{Limits, Emptied, SetupOpen, SetupSays};
 use super::Refusal;
 use super::SetupAnswer;

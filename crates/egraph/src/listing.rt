@@ -1,10 +1,7 @@
 // Calls that hand out stored nodes as they were given: `id_to_node`, the node of one id, and `nodes`, all of them, in words.
-ghost use mathlib.Core.List.{[]};
-ghost use mathlib.Core.Path.{_≡_};
 ghost use Prim.Native.Nat.{_<_, _≤_};
 ghost use lib.ListN.{length};
-ghost use Rattle.language.specs.Struct.{nodeOf};
-ghost use Rattle.language.specs.Term.{Term, spell};
+ghost use Rattle.language.specs.Term.{spell};
 ghost use Rattle.layout.specs.Head.{HeadIs};
 ghost use Rattle.layout.specs.View.{hd, view};
 ghost use Rattle.spelling.specs.Listed.{Listed};

@@ -2,13 +2,13 @@
 // A node is matched, ordered, compared, hashed and re-childed by its own methods, which hand the changed node back.
 // `nodeOf` of specs/Struct.antt says what a node means: places of the row past the count mean nothing.
 ghost use mathlib.Core.Path.{_≡_};
-ghost use mathlib.Core.List.{List, [], _∷_, _++_, foldl};
-ghost use Prim.Native.Nat.{ℕ, _+_, _≤_, _<_, _^_};
-ghost use lib.ListN.{length, getD, set};
+ghost use mathlib.Core.List.{[], foldl};
+ghost use Prim.Native.Nat.{_+_, _≤_, _<_, _^_};
+ghost use lib.ListN.{length};
 ghost use lib.Seq.{sets};
 ghost use Rattle.lists.specs.Reads.{at};
 ghost use Rattle.lists.specs.Tests.{Says};
-ghost use Rattle.language.specs.Term.{places, Term, Match, grown, rekid};
+ghost use Rattle.language.specs.Term.{places, Match, grown, rekid};
 ghost use Rattle.language.specs.Struct.{nodeOf};
 ghost use Rattle.language.specs.Ordered.{compare, and-then, compare-all, order};
 ghost use Rattle.language.specs.Hashed.{hash, mixed};

@@ -1,10 +1,10 @@
 // The parts that are plain arrays: owners, one word for each child place; scratch, 6n words; and the work area of the sort, 2n words.
 ghost use mathlib.Core.Path.{_≡_};
-ghost use Prim.Native.Nat.{ℕ, _*_, _<_, _^_};
-ghost use lib.ListN.{length, set, replicate};
+ghost use Prim.Native.Nat.{_*_, _<_, _^_};
+ghost use lib.ListN.{length, replicate};
 ghost use Rattle.lists.specs.Tests.{Says};
 ghost use Rattle.layout.specs.Cut.{owners, scratch, sorting};
-ghost use Rattle.layout.specs.View.{View, view};
+ghost use Rattle.layout.specs.View.{view};
 ghost use Rattle.layout.specs.Lent.{Lent, Stored, Loaded};
 ghost use Rattle.layout.specs.Head.{Fits};
 use super::Head;

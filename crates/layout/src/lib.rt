@@ -26,7 +26,7 @@ pub use arrays::set_scratch;
 pub use arrays::set_work;
 pub use arrays::work;
 ghost use mathlib.Core.Path.{_≡_};
-ghost use Prim.Native.Nat.{ℕ, _≤_, _<_};
+ghost use Prim.Native.Nat.{_≤_, _<_};
 ghost use lib.ListN.{length, replicate};
 ghost use Rattle.lists.specs.Tests.{Says};
 ghost use Rattle.layout.specs.Cut.{need as needed};

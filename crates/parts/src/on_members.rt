@@ -1,9 +1,8 @@
 // The class nodes, lent their part: lists of ids.
-ghost use mathlib.Core.Path.{_≡_};
-ghost use Prim.Native.Nat.{ℕ, _<_, _≤_};
+ghost use Prim.Native.Nat.{_<_};
 ghost use lib.ListN.{length};
 ghost use Rattle.layout.specs.Cut.{members};
-ghost use Rattle.layout.specs.View.{View, view};
+ghost use Rattle.layout.specs.View.{view};
 ghost use Rattle.layout.specs.Lent.{Lent};
 ghost use Rattle.layout.specs.Head.{Fits};
 ghost use mathlib.Core.Logic.{_≢_};

@@ -1,8 +1,8 @@
 // The owners of the child places: a plain array, which layout lends.
-ghost use Prim.Native.Nat.{ℕ, _<_};
+ghost use Prim.Native.Nat.{_<_};
 ghost use lib.ListN.{length};
 ghost use Rattle.layout.specs.Cut.{owners};
-ghost use Rattle.layout.specs.View.{View, view};
+ghost use Rattle.layout.specs.View.{view};
 ghost use Rattle.layout.specs.Lent.{Lent, Loaded, Stored};
 ghost use Rattle.layout.specs.Head.{Fits};
 use language::Id;

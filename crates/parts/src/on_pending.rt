@@ -1,9 +1,9 @@
 // The pending stack, lent its part.
 ghost use mathlib.Core.Path.{_≡_};
-ghost use Prim.Native.Nat.{ℕ, _<_, _≤_};
+ghost use Prim.Native.Nat.{_<_, _≤_};
 ghost use lib.ListN.{length};
 ghost use Rattle.layout.specs.Cut.{pending};
-ghost use Rattle.layout.specs.View.{View, view};
+ghost use Rattle.layout.specs.View.{view};
 ghost use Rattle.layout.specs.Lent.{Lent};
 ghost use Rattle.layout.specs.Head.{Fits};
 ghost use Prim.Native.Nat.{_^_, _*_};

@@ -1,9 +1,8 @@
 // The sort, lent its work area and the stored nodes.
-ghost use mathlib.Core.Path.{_≡_};
-ghost use Prim.Native.Nat.{ℕ, _*_, _<_, _≤_};
+ghost use Prim.Native.Nat.{_*_, _<_, _≤_};
 ghost use lib.ListN.{length};
 ghost use Rattle.layout.specs.Cut.{sorting};
-ghost use Rattle.layout.specs.View.{View, view};
+ghost use Rattle.layout.specs.View.{view};
 ghost use Rattle.layout.specs.Lent.{Lent, Loaded, Stored};
 ghost use Rattle.layout.specs.Head.{Fits};
 ghost use Rattle.layout.specs.Both.{LentBoth};

@@ -1,9 +1,8 @@
 // The node table, lent its part, and to be asked the stored nodes beside it.
-ghost use mathlib.Core.Path.{_≡_};
-ghost use Prim.Native.Nat.{ℕ, _<_, _≤_};
+ghost use Prim.Native.Nat.{_<_, _≤_};
 ghost use lib.ListN.{length};
 ghost use Rattle.layout.specs.Cut.{table};
-ghost use Rattle.layout.specs.View.{View, view};
+ghost use Rattle.layout.specs.View.{view};
 ghost use Rattle.layout.specs.Lent.{Lent};
 ghost use Rattle.layout.specs.Head.{Fits};
 ghost use Rattle.language.specs.Term.{places};

@@ -1,9 +1,8 @@
 // The parent lists, lent their part: lists of child places.
-ghost use mathlib.Core.Path.{_≡_};
-ghost use Prim.Native.Nat.{ℕ, _<_, _≤_};
+ghost use Prim.Native.Nat.{_<_};
 ghost use lib.ListN.{length};
 ghost use Rattle.layout.specs.Cut.{uses};
-ghost use Rattle.layout.specs.View.{View, view};
+ghost use Rattle.layout.specs.View.{view};
 ghost use Rattle.layout.specs.Lent.{Lent};
 ghost use Rattle.layout.specs.Head.{Fits};
 ghost use mathlib.Core.Logic.{_≢_};

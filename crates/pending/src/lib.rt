@@ -8,7 +8,6 @@
 // The depth, which is the number of entries, is the caller's to keep. To take the id pushed last, the caller asks for the `top`. One id: the depth
 // falls by one. A stretch: the id is the owner of its last place, and `push_stretch` at the depth below puts the stretch without that place there.
 // What the words stand for is specs/Moves.antt's `Pending`.
-ghost use mathlib.Core.Path.{_≡_};
 ghost use Prim.Native.Nat.{_+_, _≤_, _<_, _^_};
 ghost use lib.ListN.{length};
 ghost use Rattle.pending.specs.Promise.{Loaded, Pushes, PushesStretch, Tops};

@@ -16,7 +16,7 @@ ghost use Rattle.language.specs.Struct.{nodeOf};
 ghost use Rattle.layout.specs.Cut.{scratch};
 ghost use Rattle.layout.specs.Head.{HeadIs, HeadOk};
 ghost use Rattle.layout.specs.Lent.{Lent};
-ghost use Rattle.layout.specs.View.{View, hd, view};
+ghost use Rattle.layout.specs.View.{hd, view};
 ghost use Rattle.price.specs.Size.{cap};
 ghost use Rattle.pricing.specs.Entries.{EntryAt, Keeps};
 ghost use Rattle.pricing.specs.Node.{CostsNode};

@@ -11,10 +11,9 @@
 //
 // Places are handed out in order, so that the places of two ids never meet. `Rows` of specs/Rows.antt says which nodes the words hold.
 ghost use mathlib.Core.Path.{_≡_};
-ghost use mathlib.Core.List.{List};
-ghost use Prim.Native.Nat.{ℕ, _+_, _≤_, _<_, _^_};
+ghost use Prim.Native.Nat.{_+_, _≤_, _<_, _^_};
 ghost use lib.ListN.{length, take, drop};
-ghost use Rattle.language.specs.Term.{Term, places};
+ghost use Rattle.language.specs.Term.{places};
 ghost use Rattle.language.specs.Struct.{nodeOf};
 ghost use Rattle.rows.specs.Rows.{size};
 ghost use Rattle.rows.specs.Kids.{filled};

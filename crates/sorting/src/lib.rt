@@ -9,7 +9,7 @@
 // A merge sort from the top down. A merge drops what is equal, so that a run is strictly ascending and needs no last pass.
 ghost use mathlib.Core.Path.{_≡_};
 ghost use mathlib.Core.Bool.{true};
-ghost use Prim.Native.Nat.{ℕ, _+_, _-_, _≤_, _<_, _^_};
+ghost use Prim.Native.Nat.{_+_, _-_, _≤_, _<_, _^_};
 ghost use lib.ListN.{length};
 ghost use Rattle.lists.specs.Reads.{at};
 ghost use Rattle.lists.specs.Tests.{Says};

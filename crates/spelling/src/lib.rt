@@ -10,7 +10,7 @@
 ghost use mathlib.Core.Path.{_≡_};
 ghost use Prim.Native.Nat.{_+_, _≤_};
 ghost use lib.ListN.{length};
-ghost use Rattle.language.specs.Term.{Term, places, words};
+ghost use Rattle.language.specs.Term.{places, words};
 ghost use Rattle.language.specs.Struct.{nodeOf};
 ghost use Rattle.spelling.specs.Puts.{Puts};
 use language::Node;

@@ -9,7 +9,7 @@
 // The key of an id is not here: it is the id's key row in the stored nodes (crate `rows`), whose words `ask` only reads.
 // An id is in one bucket at most, that of its key's hash. `Table` of specs/Table.antt says which table the words hold.
 ghost use mathlib.Core.Path.{_≡_};
-ghost use Prim.Native.Nat.{ℕ, _≤_, _<_};
+ghost use Prim.Native.Nat.{_≤_, _<_};
 ghost use lib.ListN.{length};
 ghost use Rattle.language.specs.Term.{places};
 ghost use Rattle.language.specs.Struct.{nodeOf};

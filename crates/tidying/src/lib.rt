@@ -12,7 +12,7 @@ ghost use lib.ListN.{length};
 ghost use Rattle.layout.specs.Cut.{members, sorting};
 ghost use Rattle.layout.specs.Head.{HeadOk};
 ghost use Rattle.layout.specs.Lent.{Lent};
-ghost use Rattle.layout.specs.View.{View, view};
+ghost use Rattle.layout.specs.View.{view};
 ghost use Rattle.tidying.specs.Copy.{Copies};
 ghost use Rattle.tidying.specs.Refill.{PutsBack, Refills};
 ghost use Rattle.tidying.specs.Says.{TidiesClass, Tidies};

@@ -1,6 +1,6 @@
 // A good graph: nodes and unions as they are drawn, and most often a rebuild.
 ghost use mathlib.Core.Path.{_≡_};
-ghost use Prim.Native.Nat.{_≤_, _<_};
+ghost use Prim.Native.Nat.{_<_};
 ghost use lib.ListN.{length};
 use super::words::FROM;
 use super::words::IDS;

@@ -4,7 +4,7 @@
 //     0 ..      find, lookup, id_to_node, is_empty, clean, number_of_classes, total_number_of_nodes
 //     7 ..      setup, add, add_uncanonical, union, rebuild, find_best_cost
 //     13 ..     classes, classes_for_op, nodes, find_best
-ghost use Prim.Native.Nat.{_≤_, _<_};
+ghost use Prim.Native.Nat.{_<_};
 use super::answers;
 use super::building::some_node;
 use super::words::draw;

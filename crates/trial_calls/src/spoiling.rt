@@ -8,7 +8,7 @@
 //     4      a head in range, and every other word of the graph anew
 //
 // A word anew is mostly below 16, so that most links stay inside.
-ghost use Prim.Native.Nat.{_≤_, _<_};
+ghost use Prim.Native.Nat.{_<_};
 use super::words::FROM;
 use super::words::NEED;
 use super::words::SIZE;

@@ -1,5 +1,5 @@
 // What the program writes.
-ghost use Prim.Native.Nat.{_≤_, _<_};
+ghost use Prim.Native.Nat.{_<_};
 use super::tally;
 use super::tally::TALLY;
 

@@ -1,6 +1,6 @@
 // Linked cells: 8 lists of 40 cells.
 ghost use mathlib.Core.Path.{_≡_};
-ghost use Prim.Native.Nat.{_≤_, _<_};
+ghost use Prim.Native.Nat.{_<_};
 ghost use lib.ListN.{length};
 use super::text;
 use super::words;

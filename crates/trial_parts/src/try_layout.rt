@@ -1,6 +1,5 @@
 // The head of a graph: 64 words are enough for one id and one place.
 ghost use mathlib.Core.Path.{_≡_};
-ghost use Prim.Native.Nat.{_≤_, _<_};
 ghost use lib.ListN.{length};
 use super::text;
 use super::words;

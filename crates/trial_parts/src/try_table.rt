@@ -1,6 +1,6 @@
 // The table of keys for 4 ids, in the first 16 of the words, and behind it the stored nodes, with 16 places for children, which are only read.
 ghost use mathlib.Core.Path.{_≡_};
-ghost use Prim.Native.Nat.{_+_, _≤_, _<_};
+ghost use Prim.Native.Nat.{_≤_, _<_};
 ghost use lib.ListN.{length};
 ghost use Rattle.language.specs.Term.{places};
 use super::nodes;

@@ -1,6 +1,6 @@
 // The union-find, with as many ids as words are lent.
 ghost use mathlib.Core.Path.{_≡_};
-ghost use Prim.Native.Nat.{_≤_, _<_};
+ghost use Prim.Native.Nat.{_<_};
 ghost use lib.ListN.{length};
 use super::text;
 use super::words;

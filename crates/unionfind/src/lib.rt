@@ -6,7 +6,6 @@
 //
 // How many ids there are is the caller's to keep. The words may be any: each function ends, stays inside the slice and says in its promise
 // (specs/Promise.antt) what it does; on words that hold a forest (specs/Forest.antt) it does what a union-find does.
-ghost use mathlib.Core.Path.{_≡_};
 ghost use Prim.Native.Nat.{_<_, _≤_, _^_};
 ghost use lib.ListN.{length};
 ghost use Rattle.unionfind.specs.Words.{Loaded, Stored};

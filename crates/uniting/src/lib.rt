@@ -7,7 +7,6 @@
 //   forest    the loser's root gets the stayer's for its parent
 //
 // The head in the words stays: a step answers the new numbers. What each function promises: specs/Says.antt.
-ghost use mathlib.Core.Path.{_≡_};
 ghost use mathlib.Core.Logic.{_≢_};
 ghost use Prim.Native.Nat.{_<_};
 ghost use lib.ListN.{length};

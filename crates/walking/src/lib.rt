@@ -16,7 +16,7 @@ ghost use Rattle.language.specs.Struct.{nodeOf};
 ghost use Rattle.layout.specs.Cut.{scratch};
 ghost use Rattle.layout.specs.Head.{HeadOk};
 ghost use Rattle.layout.specs.Lent.{Lent};
-ghost use Rattle.layout.specs.View.{View, view};
+ghost use Rattle.layout.specs.View.{view};
 ghost use Rattle.walking.specs.Kids.{FirstKid, NextKidOf};
 ghost use Rattle.walking.specs.Step.{ListsAt, Steps};
 ghost use Rattle.walking.specs.Walk.{ListsForm, Walks};
