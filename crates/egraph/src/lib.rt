@@ -59,7 +59,7 @@ pub enum AddAnswer {
 }
 
 // The head that was read, or why there is none.
-pub enum Gate {
+enum Gate {
     GateTo(Head),
     GateNot(Refusal),
 }

@@ -18,7 +18,7 @@ use language::Id;
 use layout::Head;
 
 // The table's entry for the key of an id is set to it; if the key had an id before, the two are united.
-pub fn close(ws: &mut [u32], h: Head, id: Id) -> Closed
+fn close(ws: &mut [u32], h: Head, id: Id) -> Closed
     requires { ⌜ HeadOk (length (now ws)) h ⌝ }
     requires { ⌜ id .0 < h .ids ⌝ }
     ensures { λ r. ⌜ CloseSays h (id .0) (now (ws .entry)) r (now (ws .exit)) ⌝ }
@@ -51,7 +51,7 @@ fn one_entry(ws: &mut [u32], h: Head) -> Entry
 }
 
 // Entries are taken until none is pending, but fewer than `fuel`.
-pub fn drain_within(ws: &mut [u32], h: Head, fuel: usize) -> Drained
+fn drain_within(ws: &mut [u32], h: Head, fuel: usize) -> Drained
     requires { ⌜ HeadOk (length (now ws)) h ⌝ }
     ensures { λ r. ⌜ DrainSays h fuel (now (ws .entry)) r (now (ws .exit)) ⌝ }
 {

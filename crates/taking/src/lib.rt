@@ -20,14 +20,14 @@ pub enum Taken {
 }
 
 // The id that had the key before, if there was one; or words that no calls could have produced.
-pub enum Rekeyed {
+enum Rekeyed {
     RekeyedFrom(Id),
     RekeyedNew,
     RekeyedBroken,
 }
 
 // Whether two classes were joined, each with the new numbers of the head; or words that no calls could have produced.
-pub enum Closed {
+enum Closed {
     ClosedYes(Head),
     ClosedNo(Head),
     ClosedBroken,
@@ -46,18 +46,15 @@ pub enum Drained {
     DrainedBroken,
 }
 
-pub mod takes;
+mod takes;
 
 pub use takes::take;
 
-pub mod keys;
+mod keys;
 
 pub use keys::fresh_key;
-pub use keys::rekey;
 pub use keys::vacate;
 
-pub mod drains;
+mod drains;
 
-pub use drains::close;
 pub use drains::drain;
-pub use drains::drain_within;
