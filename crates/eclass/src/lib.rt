@@ -81,7 +81,7 @@ pub fn check(ws: &[u32], h: Head) -> bool
     requires { ⌜ HeadOk (length (now ws)) h ⌝ }
     ensures { λ b. ⌜ Says b (UnbrokenIn h (now (ws .entry))) ⌝ }
 {
-    let Total::TotalIs(t) = count_nodes(ws, h) else {
+    let Total::TotalIs(_) = count_nodes(ws, h) else {
         return false;
     };
     let ids = h.ids;

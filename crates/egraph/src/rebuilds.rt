@@ -14,7 +14,7 @@ fn rebuild_open(ws: &mut [u32], h: Head) -> CountAnswer
 {
     match rebuilding::rebuild(ws, h) {
         Drained::DrainedBroken => CountAnswer::CountNot(Refusal::BrokenWords),
-        Drained::DrainedTo(k, yes, taken) => {
+        Drained::DrainedTo(k, yes, _) => {
             layout::write_head(ws, k);
             CountAnswer::CountIs(yes)
         }
