@@ -2,6 +2,9 @@
 // back once. Names and argument order follow egg's `EGraph`; `&mut self` is the lent words.
 //
 // What the calls answer is an enum for each kind of answer; specs/Answers.antt gives document 01's number and values for each case.
+ghost use mathlib.Core.Path.{_≡_};
+ghost use Prim.Native.Nat.{_<_};
+ghost use Rattle.egraph.specs.Answers.{number-of};
 use language::Id;
 use language::Node;
 use layout::Head;
@@ -17,6 +20,25 @@ pub enum Refusal {
     NotRebuilt,
     TooLong,
     BrokenWords,
+}
+
+impl Refusal {
+    // Document 01's number.
+    pub fn number(self) -> u32
+        ensures { λ r. ⌜ (r ≡ number-of self) × (r < 10) ⌝ }
+    {
+        match self {
+            Refusal::BadLimits => 1,
+            Refusal::TooFewWords => 2,
+            Refusal::BadHead => 3,
+            Refusal::UnknownId => 4,
+            Refusal::TooManyChildren => 5,
+            Refusal::NoRoom => 6,
+            Refusal::NotRebuilt => 7,
+            Refusal::TooLong => 8,
+            Refusal::BrokenWords => 9,
+        }
+    }
 }
 
 pub enum SetupAnswer {

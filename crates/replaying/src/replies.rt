@@ -25,17 +25,7 @@ pub fn plain(reply: Reply) -> Told
 pub fn refused(why: Refusal) -> Reply
     ensures { λ r. ⌜ r ≡ refusal-reply why ⌝ }
 {
-    match why {
-        Refusal::BadLimits => Reply::ReplyRefused(1),
-        Refusal::TooFewWords => Reply::ReplyRefused(2),
-        Refusal::BadHead => Reply::ReplyRefused(3),
-        Refusal::UnknownId => Reply::ReplyRefused(4),
-        Refusal::TooManyChildren => Reply::ReplyRefused(5),
-        Refusal::NoRoom => Reply::ReplyRefused(6),
-        Refusal::NotRebuilt => Reply::ReplyRefused(7),
-        Refusal::TooLong => Reply::ReplyRefused(8),
-        Refusal::BrokenWords => Reply::ReplyRefused(9),
-    }
+    Reply::ReplyRefused(why.number())
 }
 
 pub fn on_setup(a: SetupAnswer) -> Reply

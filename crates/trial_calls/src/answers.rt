@@ -5,24 +5,14 @@ use egraph::Refusal;
 pub fn refusal(why: Refusal) -> usize
     ensures { λ r. ⌜ r < 10 ⌝ }
 {
-    match why {
-        Refusal::BadLimits => 1,
-        Refusal::TooFewWords => 2,
-        Refusal::BadHead => 3,
-        Refusal::UnknownId => 4,
-        Refusal::TooManyChildren => 5,
-        Refusal::NoRoom => 6,
-        Refusal::NotRebuilt => 7,
-        Refusal::TooLong => 8,
-        Refusal::BrokenWords => 9,
-    }
+    why.number() as usize
 }
 
 pub fn of_count(answer: egraph::CountAnswer) -> usize
     ensures { λ r. ⌜ r < 10 ⌝ }
 {
     match answer {
-        egraph::CountAnswer::CountIs(k) => 0,
+        egraph::CountAnswer::CountIs(_) => 0,
         egraph::CountAnswer::CountNot(why) => refusal(why),
     }
 }
@@ -41,7 +31,7 @@ pub fn of_add(answer: egraph::AddAnswer) -> usize
     ensures { λ r. ⌜ r < 10 ⌝ }
 {
     match answer {
-        egraph::AddAnswer::AddId(id) => 0,
+        egraph::AddAnswer::AddId(_) => 0,
         egraph::AddAnswer::AddNot(why) => refusal(why),
     }
 }
@@ -50,7 +40,7 @@ pub fn of_list(answer: egraph::ListAnswer) -> usize
     ensures { λ r. ⌜ r < 10 ⌝ }
 {
     match answer {
-        egraph::ListAnswer::ListWords(k) => 0,
+        egraph::ListAnswer::ListWords(_) => 0,
         egraph::ListAnswer::ListNot(why) => refusal(why),
     }
 }

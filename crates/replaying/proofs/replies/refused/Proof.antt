@@ -1,55 +1,13 @@
-use mathlib.Core.Path.{ap, sym}
-use Rattle.replaying.specs.Replies.{refusal-reply}
+use mathlib.Core.Path.{ap}
+use Rattle.script.specs.declared.Reply.the-variants.{ReplyRefused}
 use borrow.Author.Needs.{needs}
 use Rattle.replaying.proofs.replies.refused.Statement.{statement}
 use Rattle.replaying.proofs.replies.refused.Tie as tie
 
 returns : tie.Need-returns
-returns c = ap refusal-reply (sym (c .enum-told .given .1))
-
-returns-2 : tie.Need-returns-2
-returns-2 c = ap refusal-reply (sym (c .enum-told2 .given .1))
-
-returns-3 : tie.Need-returns-3
-returns-3 c = ap refusal-reply (sym (c .enum-told3 .given .1))
-
-returns-4 : tie.Need-returns-4
-returns-4 c = ap refusal-reply (sym (c .enum-told4 .given .1))
-
-returns-5 : tie.Need-returns-5
-returns-5 c = ap refusal-reply (sym (c .enum-told5 .given .1))
-
-returns-6 : tie.Need-returns-6
-returns-6 c = ap refusal-reply (sym (c .enum-told6 .given .1))
-
-returns-7 : tie.Need-returns-7
-returns-7 c = ap refusal-reply (sym (c .enum-told7 .given .1))
-
-returns-8 : tie.Need-returns-8
-returns-8 c = ap refusal-reply (sym (c .enum-told8 .given .1))
-
-returns-9 : tie.Need-returns-9
-returns-9 c = ap refusal-reply (sym (c .enum-told9 .given .1))
+returns c = ap ReplyRefused (c .number .ensures .0)
 
 pub refused-spec : {M : Type 1} → statement M
-refused-spec =
-    tie.close
-    (tie.spec
-    (λ c. search needs)
-    (λ c. search needs)
-    (λ c. search needs)
-    (λ c. search needs)
-    (λ c. search needs)
-    (λ c. search needs)
-    (λ c. search needs)
-    (λ c. search needs)
-    (λ c. search needs)
-    returns
-    returns-2
-    returns-3
-    returns-4
-    returns-5
-    returns-6
-    returns-7
-    returns-8
-    returns-9)
+refused-spec = tie.close (tie.spec
+    (λ c κs. search needs)
+    returns)
