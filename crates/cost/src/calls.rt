@@ -15,7 +15,7 @@ pub fn setup(ws: &mut [u32; WORDS], n: u32)
     let places = ids * 13 / 10;
     match egraph::setup(ws, ids, places) {
         egraph::SetupAnswer::SetupDone => {}
-        egraph::SetupAnswer::SetupNot(why) => text::refused(),
+        egraph::SetupAnswer::SetupNot(_) => text::refused(),
     }
 }
 
@@ -23,7 +23,7 @@ pub fn setup(ws: &mut [u32; WORDS], n: u32)
 pub fn add(ws: &mut [u32; WORDS], node: Node) -> u32 {
     match egraph::add(ws, node) {
         egraph::AddAnswer::AddId(id) => id.0,
-        egraph::AddAnswer::AddNot(why) => {
+        egraph::AddAnswer::AddNot(_) => {
             text::refused();
             0
         }
@@ -37,7 +37,7 @@ pub fn union(ws: &mut [u32; WORDS], a: u32, b: u32) -> u32
     match egraph::union(ws, Id(a), Id(b)) {
         egraph::UnionAnswer::UnionYes => 1,
         egraph::UnionAnswer::UnionNo => 0,
-        egraph::UnionAnswer::UnionNot(why) => {
+        egraph::UnionAnswer::UnionNot(_) => {
             text::refused();
             0
         }
@@ -47,7 +47,7 @@ pub fn union(ws: &mut [u32; WORDS], a: u32, b: u32) -> u32
 fn counted(answer: egraph::CountAnswer) -> usize {
     match answer {
         egraph::CountAnswer::CountIs(k) => k,
-        egraph::CountAnswer::CountNot(why) => {
+        egraph::CountAnswer::CountNot(_) => {
             text::refused();
             0
         }

@@ -64,7 +64,7 @@ fn find(ws: &[u32], seed: u64) -> usize
     ensures { λ r. ⌜ r < 10 ⌝ }
 {
     match egraph::find(ws, id(seed)) {
-        egraph::FindAnswer::FindRoot(root) => 0,
+        egraph::FindAnswer::FindRoot(_) => 0,
         egraph::FindAnswer::FindNot(why) => answers::refusal(why),
     }
 }
@@ -73,7 +73,7 @@ fn lookup(ws: &[u32], seed: u64) -> usize
     ensures { λ r. ⌜ r < 10 ⌝ }
 {
     match egraph::lookup(ws, node(seed)) {
-        egraph::LookupAnswer::LookupFound(root) => 0,
+        egraph::LookupAnswer::LookupFound(_) => 0,
         egraph::LookupAnswer::LookupNone => 0,
         egraph::LookupAnswer::LookupNot(why) => answers::refusal(why),
     }
@@ -129,7 +129,7 @@ fn find_best_cost(ws: &mut [u32], seed: u64) -> usize
     ensures { λ r. ⌜ r < 10 ⌝ }
 {
     match extract::find_best_cost(ws, id(seed)) {
-        extract::CostAnswer::CostIs(size) => 0,
+        extract::CostAnswer::CostIs(_) => 0,
         extract::CostAnswer::CostNot(why) => answers::refusal(why),
     }
 }
@@ -151,7 +151,7 @@ fn find_best(ws: &mut [u32], out: &mut [u32], seed: u64) -> usize
     ensures { λ r. ⌜ r < 10 ⌝ }
 {
     match extract::find_best(ws, id(seed), out) {
-        extract::FormAnswer::FormIs(size, length) => 0,
+        extract::FormAnswer::FormIs(_, _) => 0,
         extract::FormAnswer::FormNot(why) => answers::refusal(why),
     }
 }
