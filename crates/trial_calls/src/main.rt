@@ -46,14 +46,11 @@ fn on_changes() {
     report(7, b"setup");
     report(8, b"add");
     report(9, b"add_uncanonical");
-}
-
-fn on_unions() {
     report(10, b"union");
     report(11, b"rebuild");
-    report(12, b"find_best_cost");
 }
 
+// The calls that are lent a slice for what they list.
 fn on_lists() {
     report(13, b"classes");
     report(14, b"classes_for_op");
@@ -66,6 +63,6 @@ fn main() {
     on_nodes();
     on_counts();
     on_changes();
-    on_unions();
+    report(12, b"find_best_cost");
     on_lists();
 }
