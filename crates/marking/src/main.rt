@@ -13,7 +13,7 @@ const WORDS: usize = 608;
 fn add(ws: &mut [u32; WORDS], form: Node) -> Id {
     match egraph::add(ws, form) {
         egraph::AddAnswer::AddId(id) => id,
-        egraph::AddAnswer::AddNot(why) => Id(u32::MAX),
+        egraph::AddAnswer::AddNot(_) => Id(u32::MAX),
     }
 }
 
