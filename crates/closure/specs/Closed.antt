@@ -85,7 +85,7 @@ pub lookup-finds : {us : List (ℕ × ℕ)} {g : Graph} → Made us g → g .pen
 unfolding lookup
 lookup-finds {us} {g} M e x i i-lt q = let s = settled us g (made-good M) e i i-lt in rw (q, s .1, s .2)
 
--- helper of `union-unclean`, by the two tests
+-- the same of `union-by`, case by case
 union-by-unclean : (g : Graph) (a b : ℕ) (d : Dec (a ≡ b)) (e : Dec (length (uses (g .parents) a) < length (uses (g .parents) b))) → union-by g a b d e .graph .clean ≡ false
 unfolding union-by merge
 union-by-unclean g a b (yes q) e = refl

@@ -2,6 +2,5 @@ pub mod ClassWalk
 pub mod ClassCount
 pub mod ClassHeld
 pub mod Checks
-pub mod Pieces
 pub mod Ops
 pub mod Lists

@@ -29,7 +29,7 @@ use Rattle.spelling.specs.Listed.{length-spell}
 use Rattle.spelling.specs.Puts.{Puts}
 use Rattle.eclass.specs.ClassHeld.{nodes-counted, nodes-read, roots-listed}
 use Rattle.eclass.specs.ClassWalk.{Walk, back, back-step, class-ids, len-of, walk-end, walk-more, walk-start}
-use Rattle.eclass.specs.Pieces.{Wrote, flat-same, pieces, pieces-flat, wrote, wrote-none}
+use Rattle.spelling.specs.Pieces.{Wrote, flat-same, pieces, pieces-flat, wrote, wrote-none}
 
 -- ---- the model
 

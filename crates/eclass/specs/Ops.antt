@@ -25,7 +25,7 @@ use Rattle.rows.specs.Read.{key-read}
 use Rattle.rows.specs.declared.Fetched.{Fetched}
 use Rattle.eclass.specs.ClassHeld.{op-listed}
 use Rattle.eclass.specs.ClassWalk.{Walk, class-ids, class-read, len-of, walk-end, walk-more, walk-next, walk-start}
-use Rattle.eclass.specs.Pieces.{Wrote, pieces, pieces-filter, wrote, wrote-none}
+use Rattle.spelling.specs.Pieces.{Wrote, pieces, pieces-filter, wrote, wrote-none}
 
 -- ---- the model
 

@@ -8,7 +8,7 @@ ghost use Rattle.layout.specs.View.{view};
 ghost use Rattle.rows.specs.Read.{key-read};
 ghost use Rattle.eclass.specs.Checks.{FineIn, UnbrokenIn};
 ghost use Rattle.eclass.specs.Lists.{Before, ClassLongIn, IdWords, Placed, class-piece-in, classes-in};
-ghost use Rattle.eclass.specs.Pieces.{Wrote};
+ghost use Rattle.spelling.specs.Pieces.{Wrote};
 use language::Id;
 use layout::Head;
 

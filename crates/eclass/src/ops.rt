@@ -7,7 +7,7 @@ ghost use Rattle.layout.specs.Head.{HeadOk};
 ghost use Rattle.layout.specs.View.{view};
 ghost use Rattle.eclass.specs.Checks.{FineIn, UnbrokenIn};
 ghost use Rattle.eclass.specs.Ops.{HasOpIn, OpIs, op-piece-in, ops-in};
-ghost use Rattle.eclass.specs.Pieces.{Wrote};
+ghost use Rattle.spelling.specs.Pieces.{Wrote};
 use language::Id;
 use language::Op;
 use layout::Head;

@@ -15,7 +15,7 @@ use Rattle.eclass.specs.ClassCount.{total-of}
 use Rattle.eclass.specs.ClassHeld.{total-few, total-is}
 use Rattle.eclass.specs.Lists.{classes-are, classes-in}
 use Rattle.eclass.specs.Ops.{ops-are, ops-in}
-use Rattle.eclass.specs.Pieces.{Wrote, wrote-back, wrote-front}
+use Rattle.spelling.specs.Pieces.{Wrote, wrote-back, wrote-front}
 use Rattle.eclass.specs.declared.Total.{Total}
 use Rattle.eclass.specs.declared.Total.the-variants.{TotalBroken, TotalIs}
 use Rattle.egraph.specs.Answers.{Else, ListOpen, Lists, Unless-3, Unless-7, cleaned, count-says, head-of, held-clean, list-says, never, nine, no-by, open-broken, open-long, open-written, opened, pass, shut, stop, unclean, words≢not, yes-with}

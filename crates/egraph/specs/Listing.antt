@@ -1,7 +1,7 @@
 -- What `id_to_node` and `nodes` promise. On any words 3, 4 and 9 come exactly when document 01 says, and for a list 8; else the answer is what the rows read as. 9 never
 -- comes on words that hold a graph. A list that is refused leaves the slice lent for it as it was.
 -- Assumes nothing.
-use mathlib.Core.List.{List, [], _∷_}
+use mathlib.Core.List.{List, []}
 use mathlib.Core.Path.{_∙_, _≡_, ap, refl, subst, sym}
 use Prim.Native.Nat.{_+_, _<_, _≤_, ℕ}
 use native.Mathlib.Decide.{ℕ-discrete}

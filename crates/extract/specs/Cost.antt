@@ -8,6 +8,7 @@ use mathlib.Core.Path.{_∙_, _≡_, ap, refl, sym}
 use Prim.Native.Nat.{_*_, _<_, _≤_, ℕ}
 use native.Mathlib.Omega.{arith}
 use lib.ListN.{length, replicate}
+use Rattle.lists.specs.Tests.{zero-one}
 use Rattle.language.specs.declared.Id.{Id}
 use Rattle.steps.specs.Graph.{Graph, root}
 use Rattle.egraph.specs.Answers.{Answer, Else, Unless-3, head-of, never, nine, no-by, number-of, yes-with}
@@ -103,7 +104,7 @@ far-or-near i k h g = omega arith
 
 -- not clean, and clean
 pub unclean-or : (b : Bool) → b ≡ false → b ≡ true → ⊥
-unclean-or b p q = let z : _≡_ {A = ℕ} 0 1 = cc in omega arith
+unclean-or b p q = zero-one cc
 
 pub clean-is : {len : ℕ} {l : List ℕ} {h : Head} → HeadIs len l h → h .clean ≡ numbers l .clean
 clean-is p = ap (λ (s : Head). s .clean) (p .is)

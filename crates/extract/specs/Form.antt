@@ -11,6 +11,7 @@ use Prim.Native.Nat.{_+_, _<_, _≤_, ℕ}
 use native.Mathlib.Nat.{zero-add}
 use native.Mathlib.Omega.{arith}
 use lib.ListN.{drop, length, take}
+use Rattle.lists.specs.Tests.{zero-one}
 use Rattle.lists.specs.Sets.{sets-after, sets-stand}
 use Rattle.language.specs.declared.Id.{Id}
 use Rattle.steps.specs.Classes.{class-nodes, class-roots}
@@ -20,7 +21,7 @@ use Rattle.egraph.specs.ClassLists.{its-clean}
 use Rattle.egraph.specs.ClassReads.{Classed, KidsKnown, classed, classed-lent, classed-listed, scratch-clear}
 use Rattle.egraph.specs.declared.Refusal.{Refusal}
 use Rattle.egraph.specs.declared.Refusal.the-variants.{BrokenWords, TooLong}
-use Rattle.eclass.specs.Pieces.{Wrote, pieces}
+use Rattle.spelling.specs.Pieces.{Wrote, pieces}
 use Rattle.forming.specs.Form.{FineForm, FormMeasured, form-fine, form-is}
 use Rattle.forming.specs.FormNode.{form-piece}
 use Rattle.forming.specs.Kept.{Kept, cheapest-kept}
@@ -119,10 +120,10 @@ pub record ListsOut (h : Head) (i : ℕ) (ws : List ℕ) (r : Outline) (ws′ : 
   pub law : (g : Graph) → Holds ws g → g .clean ≡ true → KidsKnown g → OutlinedAs h g i r (view (h .n) (h .m) ws′) (cost-of g i)
 
 outline-not : {A : Type 0} (s k : ℕ) → OutlineBroken ≡ OutlineIs s k → A
-outline-not s k e = let z : _≡_ {A = ℕ} 0 1 = cc in absurd (omega arith)
+outline-not s k e = zero-one cc
 
 listed-not : {A : Type 0} (k : ℕ) → ListedBroken ≡ ListedIs k → A
-listed-not k e = let z : _≡_ {A = ℕ} 0 1 = cc in absurd (omega arith)
+listed-not k e = zero-one cc
 
 module _ (h : Head) (i : ℕ) (ws ws1 : List ℕ) (q : HeadIs (length ws) (hd ws) h) (p : Priced) (P : PricesClass h i ws p ws1) where
   pub list-unpriced : p ≡ PricedBroken → ListsOut h i ws OutlineBroken ws1
@@ -194,7 +195,7 @@ pub record WritesOut (h : Head) (s k : ℕ) (ws out : List ℕ) (r : FormAnswer)
   pub sound : (g : Graph) (c : ℕ) → FormStands h g c (view (h .n) (h .m) ws) → k ≡ length (listing g (table AstSize g) c) → FormLists s (form-words (listing g (table AstSize g) c)) out r out′
 
 form-not : {A : Type 0} (s k : ℕ) (q : Refusal) → FormNot q ≡ FormIs s k → A
-form-not s k q e = let z : _≡_ {A = ℕ} 0 1 = cc in absurd (omega arith)
+form-not s k q e = zero-one cc
 
 -- refused by 9 or 8
 fair-nine : (out : List ℕ) → FormFair out (FormNot BrokenWords) out

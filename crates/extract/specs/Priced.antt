@@ -9,6 +9,7 @@ use mathlib.Core.Path.{_∙_, _≡_, ap, refl, sym}
 use Prim.Native.Nat.{_<_, _≤_, ℕ}
 use native.Mathlib.Omega.{arith}
 use lib.ListN.{length}
+use Rattle.lists.specs.Tests.{zero-one}
 use Rattle.language.specs.declared.Id.{Id}
 use Rattle.steps.specs.Graph.{Graph, root}
 use Rattle.egraph.specs.Answers.{Answer, find-says, ids-is, never, number-of, yes-with}
@@ -50,7 +51,7 @@ pub record PricesClass (h : Head) (i : ℕ) (ws : List ℕ) (r : Priced) (ws′ 
   pub law : (g : Graph) → Holds ws g → g .clean ≡ true → KidsKnown g → PricedAs h g i r (view (h .n) (h .m) ws′ .scratch) (cost-of g i)
 
 pub priced-not : {A : Type 0} (c : Id) (p : ℕ) → PricedBroken ≡ PricedIs c p → A
-priced-not c p e = let z : _≡_ {A = ℕ} 0 1 = cc in absurd (omega arith)
+priced-not c p e = zero-one cc
 
 module _ (h : Head) (i : ℕ) (ws : List ℕ) (q : HeadIs (length ws) (hd ws) h) (hi : i < h .ids) (f : FindAnswer) (F : FindSays ws i f) where
   -- what `find` answers on words that hold a graph
@@ -79,7 +80,7 @@ module _ (h : Head) (i : ℕ) (ws : List ℕ) (q : HeadIs (length ws) (hd ws) h)
       price-broken b = record { only = C .only; low = λ c p z. priced-not c p z; law = λ g H c K. absurd (apart (C .law g H c K .0)) }
         where
           apart : o ≡ CostsFound → ⊥
-          apart d = let z : _≡_ {A = ℕ} 0 1 = cc in omega arith
+          apart d = zero-one cc
 
       module _ (y : Entry) (lt : x .0 < h .n) (E : EntryAt (h .n) (view (h .n) (h .m) ws1 .scratch) (x .0) y) where
         -- the entry of the id's class

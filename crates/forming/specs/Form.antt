@@ -14,7 +14,7 @@ use Rattle.language.specs.Struct.{nodeOf}
 use Rattle.language.specs.Term.{Term, places, spell, words}
 use Rattle.steps.specs.Graph.{Graph, node}
 use Rattle.egraph.specs.ClassReads.{Classed}
-use Rattle.eclass.specs.Pieces.{Wrote, long-more, pieces, pieces-more, pieces-next, pieces-none, pieces-room, wrote}
+use Rattle.spelling.specs.Pieces.{Wrote, long-more, pieces, pieces-more, pieces-next, pieces-none, pieces-room, wrote}
 use Rattle.layout.specs.View.{View}
 use Rattle.layout.specs.declared.Head.{Head}
 use Rattle.price.specs.Listing.{Listing, form-words, in-order}

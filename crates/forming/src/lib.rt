@@ -14,7 +14,7 @@ ghost use Rattle.language.specs.Term.{places};
 ghost use Rattle.language.specs.Struct.{nodeOf};
 ghost use Rattle.layout.specs.Head.{HeadOk};
 ghost use Rattle.layout.specs.View.{view};
-ghost use Rattle.eclass.specs.Pieces.{Wrote, pieces};
+ghost use Rattle.spelling.specs.Pieces.{Wrote, pieces};
 ghost use Rattle.forming.specs.Placed.{NoNode, WithPlaces};
 ghost use Rattle.forming.specs.FormNode.{FineNode, MarkAt, NodeAt, form-piece};
 ghost use Rattle.forming.specs.Form.{FormMeasured, NodeMeasured};

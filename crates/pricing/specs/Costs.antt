@@ -21,7 +21,7 @@ use Rattle.egraph.specs.declared.Refusal.{Refusal}
 use Rattle.holds.specs.Holds.{Holds}
 use Rattle.layout.specs.Head.{HeadIs}
 use Rattle.layout.specs.Idle.{lent-same}
-use Rattle.layout.specs.View.{View, hd, view}
+use Rattle.layout.specs.View.{hd, view}
 use Rattle.layout.specs.declared.Head.{Head}
 use Rattle.price.specs.Ends.{end-in-time, pass-grows}
 use Rattle.price.specs.Extract.{table}

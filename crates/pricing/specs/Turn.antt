@@ -19,7 +19,7 @@ use Rattle.egraph.specs.ClassReads.{Classed}
 use Rattle.layout.specs.Cut.{need, scratch}
 use Rattle.layout.specs.Idle.{lent-same}
 use Rattle.layout.specs.Lent.{Lent, lent-map, lent-twice}
-use Rattle.layout.specs.View.{View, get-length, view}
+use Rattle.layout.specs.View.{get-length, view}
 use Rattle.layout.specs.declared.Head.{Head}
 use Rattle.price.specs.Pass.{Best, Table, accept, best, look, turn}
 use Rattle.price.specs.Size.{AstSize, cap}

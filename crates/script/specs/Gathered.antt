@@ -9,7 +9,7 @@ use native.Mathlib.Numerals.{add-one}
 use native.Mathlib.Omega.{arith}
 use lib.ListN.{length, length-append, length-set, length-take, set, take}
 use lib.Seq.{length-take-le, take-all, take-append-le, take-nil, take-suc-set}
-use Rattle.script.specs.Line.{bad, lineOf, longest}
+use Rattle.script.specs.Line.{lineOf, longest}
 use Rattle.script.specs.LineLaws.{line-long}
 
 -- the first `used` bytes of line are what it has room for of bs

@@ -1,7 +1,7 @@
 -- What a graph's class lists say, as document 01 has it ("The steps", the last two paragraphs): classes in ascending root id, and of each its nodes,
 -- re-childed with roots, sorted, duplicates dropped. They are read only when the graph is clean, and then a function of nodes and roots: no step keeps them.
 -- Assumes nothing.
-use mathlib.Core.List.{List, [], _∷_, map, filter, flatMap}
+use mathlib.Core.List.{List, _∷_, map, filter, flatMap}
 use Prim.Native.Nat.{ℕ}
 use native.Mathlib.Decide.{ℕ-discrete}
 use lib.ListN.{length}

@@ -1,4 +1,4 @@
--- The last of pending is taken. What `take` and its two helpers promise, and one law for each way out.
+-- The last of pending is taken. What `take` and the two functions inside it promise, and one law for each way out.
 -- Assumes nothing.
 use mathlib.Core.List.{List, [], _∷_, cons≢nil, head-eq-of-cons-eq, tail-eq-of-cons-eq}
 use mathlib.Core.Logic.{_⊎_, inl, inr}

@@ -13,7 +13,7 @@ use Rattle.lists.specs.Members.{Mem, here, minus, minus-has, minus-lt, there}
 use Rattle.lists.specs.Options.{none≢some, some-inj}
 use Rattle.language.specs.Term.{Term}
 use Rattle.price.specs.Chosen.{Backed, Deep, Ranked, Sooner-in, sooner-in-self, sooner-in-trans}
-use Rattle.price.specs.Listing.{Listing, Once, cheapest, each, enter, spot, visit, with-places}
+use Rattle.price.specs.Listing.{Listing, Once, each, enter, spot, visit, with-places}
 use Rattle.price.specs.Pass.{Best, Table, look}
 use Rattle.price.specs.Rule.{Rule}
 use Rattle.price.specs.Shown.{Extends, Fine, Visited, spot-here, spot-past, visited}

@@ -3,7 +3,7 @@ use Prim.Native.Nat.{_*_, _-_, _≤_}
 use native.Mathlib.Omega.{arith}
 use borrow.Author.Needs.{needs}
 use lib.ListN.{length}
-use Rattle.eclass.specs.Pieces.{long-none, pieces}
+use Rattle.spelling.specs.Pieces.{long-none, pieces}
 use Rattle.layout.specs.View.{view}
 use Rattle.forming.specs.Form.{FineForm, fine-more, fine-none, measure-broken, measure-more, measure-whole}
 use Rattle.forming.specs.FormNode.{form-piece}

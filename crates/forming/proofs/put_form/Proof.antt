@@ -1,7 +1,7 @@
 use mathlib.Core.Path.{_≡_}
 use Prim.Native.Nat.{_-_, _≤_}
 use native.Mathlib.Omega.{arith}
-use Rattle.eclass.specs.Pieces.{Wrote, pieces, pieces-start}
+use Rattle.spelling.specs.Pieces.{Wrote, pieces, pieces-start}
 use Rattle.layout.specs.View.{view}
 use Rattle.forming.specs.Form.{put-next, put-room}
 use Rattle.forming.specs.FormNode.{form-piece}

@@ -3,7 +3,7 @@ use mathlib.Core.Path.{_≡_}
 use native.Mathlib.Omega.{arith}
 use Rattle.layout.specs.View.{view}
 use Rattle.eclass.specs.Lists.{class-piece}
-use Rattle.eclass.specs.Pieces.{Wrote, pieces, pieces-next, pieces-room, pieces-start}
+use Rattle.spelling.specs.Pieces.{Wrote, pieces, pieces-next, pieces-room, pieces-start}
 use Rattle.eclass.proofs.listing.put_classes.Statement.{statement}
 use Rattle.eclass.proofs.listing.put_classes.Tie as tie
 

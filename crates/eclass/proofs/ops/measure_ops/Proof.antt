@@ -4,7 +4,7 @@ use native.Mathlib.Omega.{arith}
 use lib.ListN.{length}
 use Rattle.layout.specs.View.{view}
 use Rattle.eclass.specs.Ops.{op-piece}
-use Rattle.eclass.specs.Pieces.{long-more, long-none, pieces}
+use Rattle.spelling.specs.Pieces.{long-more, long-none, pieces}
 use Rattle.eclass.proofs.ops.measure_ops.Statement.{statement}
 use Rattle.eclass.proofs.ops.measure_ops.Tie as tie
 

@@ -3,7 +3,7 @@ use mathlib.Core.Path.{_≡_}
 use native.Mathlib.Omega.{arith}
 use Rattle.layout.specs.View.{view}
 use Rattle.eclass.specs.Ops.{op-piece}
-use Rattle.eclass.specs.Pieces.{Wrote, pieces, pieces-next, pieces-room, pieces-start}
+use Rattle.spelling.specs.Pieces.{Wrote, pieces, pieces-next, pieces-room, pieces-start}
 use Rattle.eclass.proofs.ops.put_ops.Statement.{statement}
 use Rattle.eclass.proofs.ops.put_ops.Tie as tie
 
