@@ -22,25 +22,6 @@ pub enum Refusal {
     BrokenWords,
 }
 
-impl Refusal {
-    // Document 01's number.
-    pub fn number(self) -> u32
-        ensures { λ r. ⌜ (r ≡ number-of self) × (r < 10) ⌝ }
-    {
-        match self {
-            Refusal::BadLimits => 1,
-            Refusal::TooFewWords => 2,
-            Refusal::BadHead => 3,
-            Refusal::UnknownId => 4,
-            Refusal::TooManyChildren => 5,
-            Refusal::NoRoom => 6,
-            Refusal::NotRebuilt => 7,
-            Refusal::TooLong => 8,
-            Refusal::BrokenWords => 9,
-        }
-    }
-}
-
 pub enum SetupAnswer {
     SetupDone,
     SetupNot(Refusal),
@@ -157,3 +138,22 @@ pub use adds::lookup;
 pub mod rebuilds;
 
 pub use rebuilds::rebuild;
+
+impl Refusal {
+    // Document 01's number.
+    pub fn number(self) -> u32
+        ensures { λ r. ⌜ (r ≡ number-of self) × (r < 10) ⌝ }
+    {
+        match self {
+            Refusal::BadLimits => 1,
+            Refusal::TooFewWords => 2,
+            Refusal::BadHead => 3,
+            Refusal::UnknownId => 4,
+            Refusal::TooManyChildren => 5,
+            Refusal::NoRoom => 6,
+            Refusal::NotRebuilt => 7,
+            Refusal::TooLong => 8,
+            Refusal::BrokenWords => 9,
+        }
+    }
+}
