@@ -1,3 +1,5 @@
 pub mod Puts
 pub mod Listed
 pub mod Pieces
+pub mod Given
+pub mod Alone

@@ -13,9 +13,20 @@ ghost use lib.ListN.{length};
 ghost use Rattle.language.specs.Term.{places, words};
 ghost use Rattle.language.specs.Struct.{nodeOf};
 ghost use Rattle.spelling.specs.Puts.{Puts};
+ghost use Rattle.spelling.specs.Alone.{SpellsOne};
 use language::Node;
 use language::put_kids;
 use language::wide;
+
+// One node in a list of its own: how many words it took, or that the list is too short for it.
+pub enum Spelled {
+    SpelledWords(usize),
+    SpelledLong,
+}
+
+mod given;
+
+pub use given::node_of;
 
 // How many words a node takes.
 pub fn node_length(node: Node) -> usize
@@ -36,4 +47,17 @@ pub fn put_node(out: &mut [u32], at: usize, node: Node) -> usize
     out[at + 2] = node.count;
     put_kids(out, at + 3, node);
     at + n
+}
+
+// One node's words at the start of a list. Where the list is too short for them it is left as it was.
+pub fn spell_one(list: &mut [u32], node: Node) -> Spelled
+    requires { ⌜ node .count ≤ places ⌝ }
+    ensures { λ r. ⌜ SpellsOne (now (list .entry)) node r (now (list .exit)) ⌝ }
+{
+    let n = node_length(node);
+    if list.len() < n {
+        return Spelled::SpelledLong;
+    }
+    let words = put_node(list, 0, node);
+    Spelled::SpelledWords(words)
 }
