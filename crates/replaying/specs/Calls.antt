@@ -1,8 +1,6 @@
 -- What it means that a line's call was made: for each verb, the call of that name was made on the line's numbers, there is an answer that its promise allows, and what is told
 -- is that answer. Words and list are those before and after.
 -- Assumes nothing.
-use Rattle.spelling.specs.Puts.{Puts}
-use Rattle.lists.specs.Sets.{sets-stand}
 use Rattle.extract.specs.Cost.{CostSays}
 use Rattle.extract.specs.Form.{FormSays}
 use Rattle.extract.specs.declared.CostAnswer.{CostAnswer}
@@ -11,13 +9,11 @@ use Rattle.egraph.specs.ClassLists.{ClassesSays, ForOpSays, TotalSays}
 use Rattle.egraph.specs.declared.NodeOut.the-variants.{NodeIs, NodeNot}
 use Rattle.egraph.specs.declared.NodeOut.{NodeOut}
 use Rattle.egraph.specs.declared.NodeAnswer.{NodeAnswer}
-use mathlib.Core.List.{List, [], _∷_, _++_}
+use mathlib.Core.List.{List}
 use mathlib.Core.Bool.{true}
-use mathlib.Core.Path.{_≡_, ap, refl, sym, _∙_, subst}
-use Prim.Native.Nat.{ℕ, _-_, _≤_, _<_}
-use native.Mathlib.Omega.{arith}
-use lib.ListN.{drop, length, take}
-use lib.Seq.{drop-cons, take-append-le}
+use mathlib.Core.Path.{_≡_, ap, sym, _∙_, subst}
+use Prim.Native.Nat.{ℕ, _-_, _≤_}
+use lib.ListN.{drop, take}
 use Rattle.egraph.specs.Adds.{AddSays, LookupSays, UncanonicalSays}
 use Rattle.egraph.specs.Listing.{NodesSays, NodeSays}
 use Rattle.egraph.specs.Reads.{CleanSays, CountSays, EmptySays, FindSays}
@@ -32,28 +28,28 @@ use Rattle.egraph.specs.declared.ListAnswer.{ListAnswer}
 use Rattle.egraph.specs.declared.LookupAnswer.{LookupAnswer}
 use Rattle.egraph.specs.declared.SetupAnswer.{SetupAnswer}
 use Rattle.egraph.specs.declared.UnionAnswer.{UnionAnswer}
-use Rattle.language.specs.Struct.{nodeOf}
-use Rattle.language.specs.Term.{Term, places, words}
 use Rattle.language.specs.declared.Node.{Node}
 use Rattle.lists.specs.Reads.{at}
 use Rattle.script.specs.declared.Call.{Call}
 use Rattle.script.specs.Counts.{node-call, on-node}
 use Rattle.script.specs.Line.{Says}
 use Rattle.script.specs.declared.Reply.{Reply}
-use Rattle.script.specs.declared.Reply.the-variants.{ReplyBad, ReplySkip, ReplyWords}
+use Rattle.script.specs.declared.Reply.the-variants.{ReplyBad, ReplySkip}
 use Rattle.script.specs.declared.Verb.{Verb}
 use Rattle.script.specs.declared.Verb.the-variants.{VerbAdd, VerbAddUncanonical, VerbBad, VerbClasses, VerbClassesForOp, VerbClean, VerbFind, VerbFindBest, VerbFindBestCost, VerbIdToNode, VerbIsEmpty, VerbLookup, VerbNodes, VerbNumberOfClasses, VerbRebuild, VerbSetup, VerbSkip, VerbTotalNumberOfNodes, VerbUnion}
-use Rattle.replaying.specs.Replies.{add-reply, alone, count-reply, find-reply, flag-reply, form-told, list-told, lookup-reply, setup-reply, union-reply, refusal-reply, cost-reply}
+use Rattle.spelling.specs.Alone.{SpellsOne}
+use Rattle.spelling.specs.Given.{GivenNode}
+use Rattle.spelling.specs.declared.Spelled.{Spelled}
+use Rattle.replaying.specs.Replies.{spelled-told, add-reply, alone, count-reply, find-reply, flag-reply, form-told, list-told, lookup-reply, setup-reply, union-reply, refusal-reply, cost-reply}
 use Rattle.replaying.specs.declared.Told.{Told}
 
 -- number i of a call
 abbrev pub number : Call → ℕ → ℕ
 number c i = at (c .numbers) i
 
--- the node that the first k numbers give: operator, payload, children
-pub record GivenNode (k : ℕ) (ns : List ℕ) (x : Node) : Type 0 where
-  pub count : x .count ≡ k - 2
-  pub node : x .count ≤ places → nodeOf x ≡ record { op = at ns 0; payload = at ns 1; kids = take (k - 2) (drop 2 ns) }
+-- the children among the first k numbers: those behind operator and payload
+abbrev pub kids-of : ℕ → List ℕ → List ℕ
+kids-of k ns = take (k - 2) (drop 2 ns)
 
 -- there is an answer that the promise allows, and it is what is told
 pub record Answered {A : Type 0} (Promise : A → Type 0) (told : A → Told) (r : Told) : Type 0 where
@@ -61,10 +57,10 @@ pub record Answered {A : Type 0} (Promise : A → Type 0) (told : A → Told) (r
   pub says : Promise answer
   pub is : r ≡ told answer
 
--- the same of a call on a node, for every node that the line gives
+-- the same of a call on the node that the first k numbers give: operator, payload, children
 pub record AnsweredNode {A : Type 0} (k : ℕ) (ns : List ℕ) (Promise : Node → A → Type 0) (told : A → Told) (r : Told) : Type 0 where
   pub node : Node
-  pub given : GivenNode k ns node
+  pub given : GivenNode (at ns 0) (at ns 1) (kids-of k ns) node
   pub made : Answered (Promise node) told r
 
 abbrev pub SetupMade : Call → List ℕ → Told → List ℕ → Type 0
@@ -115,70 +111,29 @@ ForOpMade c ws list r list′ = Answered (λ (a : ListAnswer). ForOpSays ws (num
 abbrev pub NodesMade : List ℕ → List ℕ → Told → List ℕ → Type 0
 NodesMade ws list r list′ = Answered (λ (a : ListAnswer). NodesSays ws list a list′) list-told r
 
--- a node's words stand at the start of the list, if the node is one and there is room for it
-pub record Spelt (list : List ℕ) (x : Node) (r : Told) (list′ : List ℕ) : Type 0 where
-  pub stands : x .count ≤ places → length (words (nodeOf x)) ≤ length list
-      → (r ≡ record { reply = ReplyWords; words = length (words (nodeOf x)) }) × (take (length (words (nodeOf x))) list′ ≡ words (nodeOf x))
-
+-- the words of the node at the start of the list, or that it is too short for them
 abbrev pub NodeTold : NodeOut → Node → List ℕ → Told → List ℕ → Type 0
-NodeTold NodeIs x list r list′ = Spelt list x r list′
-NodeTold (NodeNot q) x list r list′ = r ≡ alone (refusal-reply q)
+NodeTold NodeIs x list r list′ = Answered (λ (s : Spelled). SpellsOne list x s list′) spelled-told r
+NodeTold (NodeNot q) x list r list′ = (r ≡ alone (refusal-reply q)) × (list′ ≡ list)
 
 pub record NodeMade (ws : List ℕ) (i : ℕ) (list : List ℕ) (r : Told) (list′ : List ℕ) : Type 0 where
   pub answer : NodeAnswer
   pub says : NodeSays ws i answer
   pub told : NodeTold (answer .out) (answer .node) list r list′
 
-pub spelt : (list list′ : List ℕ) (x : Node) (n : ℕ) → Puts list 0 x n list′ → Spelt list x (record { reply = ReplyWords; words = n }) list′
-spelt list list′ x n d = record { stands = λ s f. (ap (λ (k : ℕ). listed k) (omega (arith, d .next)), front f) }
-  where
-    listed : ℕ → Told
-    listed k = record { reply = ReplyWords; words = k }
-
-    front : length (words (nodeOf x)) ≤ length list → take (length (words (nodeOf x))) list′ ≡ words (nodeOf x)
-    front f = rw (d .exact) (sets-stand list (words (nodeOf x)) 0 (omega arith))
-
-pub too-many : (list list′ : List ℕ) (x : Node) (r : Told) → places < x .count → Spelt list x r list′
-too-many list list′ x r h = record { stands = λ s f. absurd (omega arith) }
-
-pub too-long : (list list′ : List ℕ) (x : Node) (r : Told) → length list < length (words (nodeOf x)) → Spelt list x r list′
-too-long list list′ x r h = record { stands = λ s f. absurd (omega arith) }
-
 pub node-made : {ws : List ℕ} {i : ℕ} {list : List ℕ} {r : Told} {list′ : List ℕ} (a : NodeAnswer) {o : NodeOut} → NodeSays ws i a → a .out ≡ o → NodeTold o (a .node) list r list′ → NodeMade ws i list r list′
 node-made {list = list} {r} {list′} a p e t = record { answer = a; says = p; told = subst (λ (z : NodeOut). NodeTold z (a .node) list r list′) (sym e) t }
 
--- as the code puts it together
+-- as the code puts it together: words beside the reply, and none
+pub answered-list : {A : Type 0} {Promise : A → Type 0} {told : A → Told} (a : A) {r : Told} → Promise a → r ≡ told a → Answered Promise told r
+answered-list a p e = record { answer = a; says = p; is = e }
+
 pub answered : {A : Type 0} {Promise : A → Type 0} (f : A → Reply) (a : A) {q : Reply} {r : Told} → Promise a → q ≡ f a → r ≡ alone q → Answered Promise (λ (a : A). alone (f a)) r
 answered f a p e d = record { answer = a; says = p; is = d ∙ ap alone e }
 
-pub answered-node : {A : Type 0} {k : ℕ} {ns : List ℕ} {Promise : Node → A → Type 0} (f : A → Reply) (x : Node) (a : A) {q : Reply} {r : Told} → GivenNode k ns x → Promise x a → q ≡ f a → r ≡ alone q
+pub answered-node : {A : Type 0} {k : ℕ} {ns : List ℕ} {Promise : Node → A → Type 0} (f : A → Reply) (x : Node) (a : A) {q : Reply} {r : Told} → GivenNode (at ns 0) (at ns 1) (kids-of k ns) x → Promise x a → q ≡ f a → r ≡ alone q
     → AnsweredNode k ns Promise (λ (a : A). alone (f a)) r
 answered-node f x a g p e d = record { node = x; given = g; made = answered f a p e d }
-
--- ---- the node of a call
-
--- eight numbers from the third on
-abbrev eight : List ℕ → List ℕ
-eight ns = at ns 2 ∷ at ns 3 ∷ at ns 4 ∷ at ns 5 ∷ at ns 6 ∷ at ns 7 ∷ at ns 8 ∷ at ns 9 ∷ []
-
-eight-is : (ns : List ℕ) → 10 ≤ length ns → drop 2 ns ≡ eight ns ++ drop 10 ns
-eight-is ns h =
-    drop-cons ns 2 0 (omega arith)
-    ∙ ap (λ (l : List ℕ). at ns 2 ∷ l) (drop-cons ns 3 0 (omega arith)
-    ∙ ap (λ (l : List ℕ). at ns 3 ∷ l) (drop-cons ns 4 0 (omega arith)
-    ∙ ap (λ (l : List ℕ). at ns 4 ∷ l) (drop-cons ns 5 0 (omega arith)
-    ∙ ap (λ (l : List ℕ). at ns 5 ∷ l) (drop-cons ns 6 0 (omega arith)
-    ∙ ap (λ (l : List ℕ). at ns 6 ∷ l) (drop-cons ns 7 0 (omega arith)
-    ∙ ap (λ (l : List ℕ). at ns 7 ∷ l) (drop-cons ns 8 0 (omega arith)
-    ∙ ap (λ (l : List ℕ). at ns 8 ∷ l) (drop-cons ns 9 0 (omega arith))))))))
-
-abbrev term : ℕ → ℕ → List ℕ → Term
-term o p ks = record { op = o; payload = p; kids = ks }
-
-pub node-given : (c : Call) → 10 ≤ length (c .numbers)
-    → GivenNode (c .count) (c .numbers) (record { op = record { 0 = number c 0 }; payload = number c 1; count = c .count - 2; kids = record { 0 = number c 2 } ∷ record { 0 = number c 3 } ∷ record { 0 = number c 4 } ∷ record { 0 = number c 5 } ∷ record { 0 = number c 6 } ∷ record { 0 = number c 7 } ∷ record { 0 = number c 8 } ∷ record { 0 = number c 9 } ∷ [] })
-unfolding nodeOf
-node-given c h = record { count = refl; node = λ k. ap (λ (l : List ℕ). term (number c 0) (number c 1) l) (sym (take-append-le (c .count - 2) (eight (c .numbers)) (drop 10 (c .numbers)) k) ∙ ap (take (c .count - 2)) (sym (eight-is (c .numbers) h))) }
 
 -- ---- the call of a line
 

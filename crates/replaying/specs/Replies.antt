@@ -14,6 +14,7 @@ use Rattle.egraph.specs.declared.ListAnswer.the-variants.{ListNot, ListWords}
 use Rattle.egraph.specs.declared.LookupAnswer.{LookupAnswer}
 use Rattle.egraph.specs.declared.LookupAnswer.the-variants.{LookupFound, LookupNone, LookupNot}
 use Rattle.egraph.specs.declared.Refusal.{Refusal}
+use Rattle.egraph.specs.declared.Refusal.the-variants.{TooLong}
 use Rattle.egraph.specs.declared.SetupAnswer.{SetupAnswer}
 use Rattle.egraph.specs.declared.SetupAnswer.the-variants.{SetupDone, SetupNot}
 use Rattle.egraph.specs.declared.UnionAnswer.{UnionAnswer}
@@ -22,6 +23,8 @@ use Rattle.extract.specs.declared.CostAnswer.{CostAnswer}
 use Rattle.extract.specs.declared.CostAnswer.the-variants.{CostIs, CostNot}
 use Rattle.extract.specs.declared.FormAnswer.{FormAnswer}
 use Rattle.extract.specs.declared.FormAnswer.the-variants.{FormIs, FormNot}
+use Rattle.spelling.specs.declared.Spelled.{Spelled}
+use Rattle.spelling.specs.declared.Spelled.the-variants.{SpelledLong, SpelledWords}
 use Rattle.script.specs.declared.Reply.{Reply}
 use Rattle.script.specs.declared.Reply.the-variants.{ReplyDone, ReplyNo, ReplyNone, ReplyNumber, ReplyRefused, ReplySized, ReplyWords, ReplyYes}
 use Rattle.replaying.specs.declared.Told.{Told}
@@ -75,3 +78,8 @@ list-told (ListNot q) = alone (refusal-reply q)
 abbrev pub form-told : FormAnswer → Told
 form-told (FormIs s k) = record { reply = ReplySized s; words = k }
 form-told (FormNot q) = alone (refusal-reply q)
+
+-- a node is a list of its words
+abbrev pub spelled-told : Spelled → Told
+spelled-told (SpelledWords k) = record { reply = ReplyWords; words = k }
+spelled-told SpelledLong = alone (refusal-reply TooLong)

@@ -1,6 +1,7 @@
 // One call made, and what it answered as a reply; the words of a list or a form stand at the start of `list`.
 ghost use Prim.Native.Nat.{_≤_};
-ghost use Rattle.replaying.specs.Calls.{number, Spelt, NodeMade, Sound, MadeBy, GivenNode, SetupMade, AddMade, UncanonicalMade, LookupMade, FindMade, UnionMade, RebuildMade, EmptyMade, CleanMade, CountMade, NodesMade, ClassesMade, ForOpMade, TotalMade, CostMade, FormMade};
+ghost use Rattle.spelling.specs.Given.{GivenNode};
+ghost use Rattle.replaying.specs.Calls.{number, kids-of, NodeMade, Sound, MadeBy, SetupMade, AddMade, UncanonicalMade, LookupMade, FindMade, UnionMade, RebuildMade, EmptyMade, CleanMade, CountMade, NodesMade, ClassesMade, ForOpMade, TotalMade, CostMade, FormMade};
 use super::Told;
 use super::replies;
 use egraph::NodeOut;
@@ -11,46 +12,14 @@ use script::Call;
 use script::Reply;
 use script::Verb;
 
-// The node of a call that takes one. Children past the eighth are counted and not kept: the call refuses them.
+// The node of a call that takes one.
 fn node_of(call: Call) -> Node
     requires { ⌜ (2 ≤ call .count) × (call .count ≤ 24) ⌝ }
-    ensures { λ r. ⌜ GivenNode (call .count) (call .numbers) r ⌝ }
+    ensures { λ r. ⌜ GivenNode (number call 0) (number call 1) (kids-of (call .count) (call .numbers)) r ⌝ }
 {
     let n = call.numbers;
-    Node {
-        op: Op(n[0]),
-        payload: n[1],
-        count: (call.count - 2) as u32,
-        kids: [
-            Id(n[2]),
-            Id(n[3]),
-            Id(n[4]),
-            Id(n[5]),
-            Id(n[6]),
-            Id(n[7]),
-            Id(n[8]),
-            Id(n[9]),
-        ],
-    }
-}
-
-// The words of a node at the start of a list.
-fn spell(list: &mut [u32], node: Node) -> Told
-    ensures { λ r. ⌜ Spelt (now (list .entry)) node r (now (list .exit)) ⌝ }
-{
-    let count = node.count as usize;
-    if language::PLACES < count {
-        return replies::plain(Reply::ReplyRefused(9));
-    }
-    let n = spelling::node_length(node);
-    if list.len() < n {
-        return replies::plain(Reply::ReplyRefused(8));
-    }
-    let words = spelling::put_node(list, 0, node);
-    Told {
-        reply: Reply::ReplyWords,
-        words,
-    }
+    let count = call.count;
+    spelling::node_of(n[0], n[1], &n[2..count])
 }
 
 fn call_id_to_node(ws: &[u32], list: &mut [u32], call: Call) -> Told
@@ -60,7 +29,7 @@ fn call_id_to_node(ws: &[u32], list: &mut [u32], call: Call) -> Told
     let a = egraph::id_to_node(ws, Id(n[0]));
     let out = a.out;
     match out {
-        NodeOut::NodeIs => spell(list, a.node),
+        NodeOut::NodeIs => replies::on_node(spelling::spell_one(list, a.node)),
         NodeOut::NodeNot(why) => replies::plain(replies::refused(why)),
     }
 }

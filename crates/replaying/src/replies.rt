@@ -1,6 +1,6 @@
 // What a call answered as a reply.
 ghost use mathlib.Core.Path.{_≡_};
-ghost use Rattle.replaying.specs.Replies.{refusal-reply, setup-reply, find-reply, add-reply, lookup-reply, union-reply, cost-reply, count-reply, flag-reply, list-told, form-told, alone};
+ghost use Rattle.replaying.specs.Replies.{refusal-reply, setup-reply, find-reply, add-reply, lookup-reply, union-reply, cost-reply, count-reply, flag-reply, list-told, form-told, spelled-told, alone};
 use super::Told;
 use egraph::AddAnswer;
 use egraph::CountAnswer;
@@ -14,6 +14,7 @@ use egraph::UnionAnswer;
 use extract::CostAnswer;
 use extract::FormAnswer;
 use script::Reply;
+use spelling::Spelled;
 
 // A reply without words.
 pub fn plain(reply: Reply) -> Told
@@ -112,6 +113,19 @@ pub fn on_list(a: ListAnswer) -> Told
             words: k,
         },
         ListAnswer::ListNot(why) => plain(refused(why)),
+    }
+}
+
+// The words of a node stand in a list, or the list is too short for them.
+pub fn on_node(s: Spelled) -> Told
+    ensures { λ r. ⌜ r ≡ spelled-told s ⌝ }
+{
+    match s {
+        Spelled::SpelledWords(k) => Told {
+            reply: Reply::ReplyWords,
+            words: k,
+        },
+        Spelled::SpelledLong => plain(refused(Refusal::TooLong)),
     }
 }
 

@@ -1,14 +1,13 @@
 use native.Mathlib.Omega.{arith}
-use Rattle.replaying.specs.Calls.{node-given}
 use Rattle.script.proofs.Sized.{sized}
 use borrow.Author.Needs.{needs}
 use Rattle.replaying.proofs.calls.node_of.Statement.{statement}
 use Rattle.replaying.proofs.calls.node_of.Tie as tie
 
-returns : tie.Need-returns
-returns c =
-    let call = c .before .before .args .call in
-    node-given call (omega (arith, sized call (c .before .before .good .0)))
+part-node-of-end : tie.Need-part-node-of-end
+part-node-of-end c =
+    let s = c .before .before in
+    omega (arith, sized (s .args .call) (s .good .0), s .pre .1)
 
 pub node-of-spec : {M : Type 1} → statement M
 node-of-spec =
@@ -18,12 +17,6 @@ node-of-spec =
     (λ c. search needs)
     (λ c. search needs)
     (λ c. search needs)
-    (λ c. search needs)
-    (λ c. search needs)
-    (λ c. search needs)
-    (λ c. search needs)
-    (λ c. search needs)
-    (λ c. search needs)
-    (λ c. search needs)
-    (λ c. search needs)
-    returns)
+    part-node-of-end
+    (λ c κs. search needs)
+    (λ c. search needs))
