@@ -1,0 +1,4 @@
+pub mod Spoken
+pub mod Answered
+pub mod NodeTold
+pub mod Needs
