@@ -9,7 +9,7 @@ use lib.Dec.{eqb, leb, ltb}
 use lib.ListN.{length, length-take, take}
 use borrow.Author.Tests.{leb-true}
 use Rattle.script.specs.Fields.{Nums, all, fieldsOf, nope, numbersOf}
-use Rattle.script.specs.Line.{Line, Says, bad, call, lineOf, ofFields, skip}
+use Rattle.script.specs.Line.{Line, Says, bad, bare, bareLine, call, lineOf, longest, ofFields, skip}
 use Rattle.script.specs.LineLaws.{not-both}
 use Rattle.script.specs.Verbs.{Entry, changesTable, chosen, countsTable, readsTable, same, shape, verbOf}
 use Rattle.script.specs.declared.Call.{Call}
@@ -85,12 +85,14 @@ enough-cond : (b : Bool) (x y : Line) → Enough x → Enough y → Enough (cond
 enough-cond true x y p q = p
 enough-cond false x y p q = q
 
+enough-bare : (s : List ℕ) → Enough (bareLine s)
+unfolding bareLine
+enough-bare [] = λ e. absurd (not-both false e refl)
+enough-bare (b ∷ s) = enough-cond (eqb b 35) skip _ (λ e. absurd (not-both false e refl)) (enough-fields (fieldsOf (b ∷ s)))
+
 enough-line : (s : List ℕ) → Enough (lineOf s)
 unfolding lineOf
-enough-line [] = λ e. absurd (not-both false e refl)
-enough-line (b ∷ s) =
-    enough-cond (ltb 4096 (length (b ∷ s))) bad _ (λ e. absurd (not-both false e refl))
-    (enough-cond (eqb b 35) skip _ (λ e. absurd (not-both false e refl)) (enough-fields (fieldsOf (b ∷ s))))
+enough-line s = enough-cond (ltb longest (length s)) bad _ (λ e. absurd (not-both false e refl)) (enough-bare (bare s))
 
 -- a call on a node has its operator and its payload
 pub node-call : (line : List ℕ) (r : Call) → Says line r → on-node (r .verb) ≡ true → 2 ≤ r .count

@@ -5,7 +5,7 @@ use mathlib.Core.Path.{_≡_, refl}
 use Prim.Native.Nat.{ℕ}
 use Rattle.script.specs.Decimal.{decimal-in, digitsOf, numberOf}
 use Rattle.script.specs.Fields.{fieldsOf, numbersOf}
-use Rattle.script.specs.Line.{Line, lineOf}
+use Rattle.script.specs.Line.{Line, bareLine, lineOf, unmarked, unreturned}
 use Rattle.script.specs.Reply.{reply-line, words}
 use Rattle.script.specs.Verbs.{changesTable, countsTable, readsTable, verbOf}
 use Rattle.script.specs.declared.Reply.{Reply}
@@ -39,6 +39,28 @@ lines =
     (35 ∷ 32 ∷ 102 ∷ 105 ∷ 110 ∷ 100 ∷ 32 ∷ 49 ∷ [], VerbSkip, [])
     ∷  -- ` find 1`
     (32 ∷ 102 ∷ 105 ∷ 110 ∷ 100 ∷ 32 ∷ 49 ∷ [], VerbBad, [])
+    ∷  -- `find 12`, a carriage return
+    (102 ∷ 105 ∷ 110 ∷ 100 ∷ 32 ∷ 49 ∷ 50 ∷ 13 ∷ [], VerbFind, 12 ∷ [])
+    ∷  -- `find 12`, two carriage returns
+    (102 ∷ 105 ∷ 110 ∷ 100 ∷ 32 ∷ 49 ∷ 50 ∷ 13 ∷ 13 ∷ [], VerbBad, [])
+    ∷  -- a carriage return, `find 12`
+    (13 ∷ 102 ∷ 105 ∷ 110 ∷ 100 ∷ 32 ∷ 49 ∷ 50 ∷ [], VerbBad, [])
+    ∷  -- a carriage return
+    (13 ∷ [], VerbSkip, [])
+    ∷  -- a byte-order mark, `find 12`
+    (239 ∷ 187 ∷ 191 ∷ 102 ∷ 105 ∷ 110 ∷ 100 ∷ 32 ∷ 49 ∷ 50 ∷ [], VerbFind, 12 ∷ [])
+    ∷  -- a byte-order mark, `find 12`, a carriage return
+    (239 ∷ 187 ∷ 191 ∷ 102 ∷ 105 ∷ 110 ∷ 100 ∷ 32 ∷ 49 ∷ 50 ∷ 13 ∷ [], VerbFind, 12 ∷ [])
+    ∷  -- two byte-order marks, `find 12`
+    (239 ∷ 187 ∷ 191 ∷ 239 ∷ 187 ∷ 191 ∷ 102 ∷ 105 ∷ 110 ∷ 100 ∷ 32 ∷ 49 ∷ 50 ∷ [], VerbBad, [])
+    ∷  -- two bytes of a byte-order mark, `find 12`
+    (239 ∷ 187 ∷ 102 ∷ 105 ∷ 110 ∷ 100 ∷ 32 ∷ 49 ∷ 50 ∷ [], VerbBad, [])
+    ∷  -- a byte-order mark
+    (239 ∷ 187 ∷ 191 ∷ [], VerbSkip, [])
+    ∷  -- a byte-order mark, a carriage return
+    (239 ∷ 187 ∷ 191 ∷ 13 ∷ [], VerbSkip, [])
+    ∷  -- a byte-order mark, `# x`
+    (239 ∷ 187 ∷ 191 ∷ 35 ∷ 32 ∷ 120 ∷ [], VerbSkip, [])
     ∷ []
 
 -- answers, each with the words beside it and its line
@@ -61,7 +83,7 @@ replies =
     ∷ []
 
 pub lines-say : map (λ (x : List ℕ × Verb × List ℕ). lineOf (x .0)) lines ≡ map (λ (x : List ℕ × Verb × List ℕ). line (x .1) (x .2)) lines
-unfolding lineOf fieldsOf numbersOf numberOf digitsOf verbOf changesTable readsTable countsTable
+unfolding lineOf unmarked unreturned bareLine fieldsOf numbersOf numberOf digitsOf verbOf changesTable readsTable countsTable
 lines-say = refl
 
 pub replies-are : map (λ (x : Reply × List ℕ × List ℕ). reply-line (x .0) (x .1)) replies ≡ map (λ (x : Reply × List ℕ × List ℕ). x .2) replies

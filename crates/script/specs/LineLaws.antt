@@ -1,21 +1,22 @@
--- The laws behind `parse`: names compared, the numbers behind a verb, and what a line says whose verb and numbers are known.
+-- The laws behind `parse`: names compared, the numbers behind a verb, what a bare line says whose verb and numbers are known, where a bare line begins
+-- and ends, and what a whole line says.
 -- Assumes nothing.
-use mathlib.Core.Path.{_≡_, refl, _∙_}
+use mathlib.Core.Path.{_≡_, refl, sym, ap, _∙_}
 use mathlib.Core.List.{List, [], _∷_}
 use mathlib.Core.Bool.{Bool, true, false, _&&_, cond}
 use mathlib.Core.Logic.{_⊎_, inl, inr}
-use Prim.Native.Nat.{ℕ, _+_, _≤_, _<_}
+use Prim.Native.Nat.{ℕ, _+_, _-_, _≤_, _<_}
 use native.Mathlib.Decide.{decLt}
 use native.Mathlib.Omega.{arith}
 use lib.Dec.{leb, eqb, lit≤}
-use lib.ListN.{length, getD, take}
-use lib.Seq.{length-take-le}
+use lib.ListN.{length, getD, take, drop, length-take}
+use lib.Seq.{length-take-le, take-all}
 use borrow.Author.Tests.{eqb-true, eq-eqb, ne-eqb, lt-ltb, le-ltb, leb-true, le-leb, lt-leb}
 use Rattle.lists.specs.Tests.{zero-one}
 use Rattle.script.specs.Fields.{fieldsOf, Nums, nope, all, numbersOf, Sought, NumbersSay}
-use Rattle.script.specs.FieldsLaws.{rest, fields-cut, fields-last}
+use Rattle.script.specs.FieldsLaws.{rest, rest-is, fields-cut, fields-last}
 use Rattle.script.specs.Verbs.{same, shape, Entry, chosen, changesTable, readsTable, countsTable, verbOf}
-use Rattle.script.specs.Line.{Line, Says, skip, bad, call, ofFields, lineOf}
+use Rattle.script.specs.Line.{Ends, Line, Says, SaysBare, Starts, bad, bare, bareLine, call, lineOf, mark, ofFields, skip, unmarked, unreturned}
 use Rattle.script.specs.declared.Call.{Call}
 use Rattle.script.specs.declared.Shape.{Shape}
 use Rattle.script.specs.declared.Verb.{Verb}
@@ -50,7 +51,7 @@ is-no w n x y h = go (same w n) refl
 pub not-both : (b : Bool) → b ≡ true → b ≡ false → ⊥
 not-both b p q = zero-one cc
 
--- ---- a whole line
+-- ---- a bare line
 
 pub args-none : (line : List ℕ) (e : ℕ) (vs : List ℕ) → Sought line 32 e → length line ≤ e → (fs : List (List ℕ)) → fieldsOf line ≡ take e line ∷ fs → NumbersSay fs 0 vs
 unfolding numbersOf
@@ -82,48 +83,42 @@ few : (w : List ℕ) → verbOf w .most ≤ 24
 unfolding verbOf changesTable readsTable countsTable
 few w = few-chosen w changesTable _ refl (few-chosen w readsTable _ refl (few-chosen w countsTable (shape VerbBad 1 0) refl (lit≤ tt)))
 
-pub says-plain : (line : List ℕ) (r : Call) (v : Verb) → lineOf line ≡ record { verb = v; numbers = [] } → (r .verb ≡ v) × (r .count ≡ 0) → Says line r
-says-plain line r v e p = record { exact = rw (p .0, p .1) e; few = omega arith }
+pub says-plain : (s : List ℕ) (r : Call) (v : Verb) → bareLine s ≡ record { verb = v; numbers = [] } → (r .verb ≡ v) × (r .count ≡ 0) → SaysBare s r
+says-plain s r v e p = record { exact = rw (p .0, p .1) e; few = omega arith }
 
-pub line-none : (line : List ℕ) → length line ≡ 0 → lineOf line ≡ skip
-unfolding lineOf
+pub line-none : (s : List ℕ) → length s ≡ 0 → bareLine s ≡ skip
+unfolding bareLine
 line-none [] h = refl
 line-none (b ∷ s) h = absurd (omega arith)
 
-pub line-long : (line : List ℕ) → 4096 < length line → lineOf line ≡ bad
-unfolding lineOf
-line-long [] l = absurd (omega arith)
-line-long (b ∷ s) l = rw (lt-ltb 4096 (length (b ∷ s)) l) refl
+pub line-note : (s : List ℕ) → 0 < length s → getD s 0 0 ≡ 35 → bareLine s ≡ skip
+unfolding bareLine
+line-note [] l h = absurd (omega arith)
+line-note (b ∷ s) l h = rw (eq-eqb b 35 h) refl
 
-pub line-note : (line : List ℕ) → 0 < length line → length line ≤ 4096 → getD line 0 0 ≡ 35 → lineOf line ≡ skip
-unfolding lineOf
-line-note [] l m h = absurd (omega arith)
-line-note (b ∷ s) l m h = rw (le-ltb 4096 (length (b ∷ s)) m, eq-eqb b 35 h) refl
+line-fields : (s : List ℕ) → 0 < length s → (getD s 0 0 ≡ 35 → ⊥) → bareLine s ≡ ofFields (fieldsOf s)
+unfolding bareLine
+line-fields [] l h = absurd (omega arith)
+line-fields (b ∷ s) l h = rw (ne-eqb b 35 h) refl
 
-line-fields : (line : List ℕ) → 0 < length line → length line ≤ 4096 → (getD line 0 0 ≡ 35 → ⊥) → lineOf line ≡ ofFields (fieldsOf line)
-unfolding lineOf
-line-fields [] l m h = absurd (omega arith)
-line-fields (b ∷ s) l m h = rw (le-ltb 4096 (length (b ∷ s)) m, ne-eqb b 35 h) refl
-
--- a line whose verb ends at e, with what its two parts say
+-- a bare line whose verb ends at e, with what its two parts say
 pub record Parts (line : List ℕ) (e : ℕ) (v : Shape) (n : ℕ) (vs : List ℕ) : Type 0 where
   pub some : 0 < length line
-  pub short : length line ≤ 4096
   pub first : getD line 0 0 ≡ 35 → ⊥
   pub cut : Sought line 32 e
   pub verb : v ≡ verbOf (take e line)
   pub row : (fs : List (List ℕ)) → fieldsOf line ≡ take e line ∷ fs → NumbersSay fs n vs
 
 split : (line : List ℕ) (e : ℕ) (v : Shape) (n : ℕ) (vs : List ℕ) (P : Line → Type 0) → Parts line e v n vs
-    → ((fs : List (List ℕ)) → NumbersSay fs n vs → P (call v (numbersOf fs))) → P (lineOf line)
+    → ((fs : List (List ℕ)) → NumbersSay fs n vs → P (call v (numbersOf fs))) → P (bareLine line)
 split line e v n vs P p k = go (decLt e (length line))
   where
-    use-it : (fs : List (List ℕ)) → fieldsOf line ≡ take e line ∷ fs → P (lineOf line)
+    use-it : (fs : List (List ℕ)) → fieldsOf line ≡ take e line ∷ fs → P (bareLine line)
     use-it fs q =
-        let a : lineOf line ≡ call v (numbersOf fs) = line-fields line (p .some) (p .short) (p .first) ∙ rw (q, p .verb) refl in
+        let a : bareLine line ≡ call v (numbersOf fs) = line-fields line (p .some) (p .first) ∙ rw (q, p .verb) refl in
         rw a (k fs (p .row fs q))
 
-    go : Dec (e < length line) → P (lineOf line)
+    go : Dec (e < length line) → P (bareLine line)
     go (yes l) = use-it (fieldsOf (rest (e + 1) line)) (fields-cut line e (p .cut) l)
     go (no l) = use-it [] (fields-last line e (p .cut) (omega arith))
 
@@ -153,7 +148,7 @@ counted fs n vs ms s q = go (decLt 24 n)
         let z : ms ≡ take n vs = cc (g .0, q) in
         inl (rw z (length-take-le n vs (g .1)))
 
-pub line-low : (line : List ℕ) (e : ℕ) (v : Shape) (n : ℕ) (vs : List ℕ) → Parts line e v n vs → n < v .least → lineOf line ≡ bad
+pub line-low : (line : List ℕ) (e : ℕ) (v : Shape) (n : ℕ) (vs : List ℕ) → Parts line e v n vs → n < v .least → bareLine line ≡ bad
 line-low line e v n vs p l =
     split line e v n vs (λ x. x ≡ bad) p (λ fs s. call-bad v (numbersOf fs) (λ ms q. go ms (counted fs n vs ms s q)))
   where
@@ -161,7 +156,7 @@ line-low line e v n vs p l =
     go ms (inl a) = inl (omega arith)
     go ms (inr a) = inr (omega (arith, few-of line e v n vs p, a .1))
 
-pub line-high : (line : List ℕ) (e : ℕ) (v : Shape) (n : ℕ) (vs : List ℕ) → Parts line e v n vs → v .most < n → lineOf line ≡ bad
+pub line-high : (line : List ℕ) (e : ℕ) (v : Shape) (n : ℕ) (vs : List ℕ) → Parts line e v n vs → v .most < n → bareLine line ≡ bad
 line-high line e v n vs p l =
     split line e v n vs (λ x. x ≡ bad) p (λ fs s. call-bad v (numbersOf fs) (λ ms q. go ms (counted fs n vs ms s q)))
   where
@@ -170,7 +165,7 @@ line-high line e v n vs p l =
     go ms (inr a) = inr (omega (arith, few-of line e v n vs p, a .1))
 
 pub line-call : (line : List ℕ) (e : ℕ) (v : Shape) (n : ℕ) (vs : List ℕ) → Parts line e v n vs → v .least ≤ n → n ≤ v .most
-    → Says line (record { verb = v .verb; count = n; numbers = vs })
+    → SaysBare line (record { verb = v .verb; count = n; numbers = vs })
 line-call line e v n vs p a b =
     let m : n ≤ 24 = omega (arith, few-of line e v n vs p) in
     record {
@@ -180,3 +175,52 @@ line-call line e v n vs p a b =
   where
     go : (fs : List (List ℕ)) → (numbersOf fs ≡ all (take n vs)) × (n ≤ length vs) → call v (numbersOf fs) ≡ record { verb = v .verb; numbers = take n vs }
     go fs g = rw (g .0, length-take-le n vs (g .1), le-leb (v .least) n a, le-leb n (v .most) b) refl
+
+-- ---- where a bare line begins and ends
+
+pub starts-marked : (line : List ℕ) → 3 ≤ length line → take 3 line ≡ mark → Starts line 3
+unfolding unmarked
+starts-marked line h e = record { within = h; bytes = is-yes (take 3 line) mark (drop 3 line) line e }
+
+pub starts-plain : (line : List ℕ) → (take 3 line ≡ mark → ⊥) → Starts line 0
+unfolding unmarked
+starts-plain line h = record { within = omega arith; bytes = is-no (take 3 line) mark (drop 3 line) line h }
+
+pub starts-short : (line : List ℕ) → length line < 3 → Starts line 0
+starts-short line h = starts-plain line (λ e. absurd (omega (arith, ap length e, length-take 3 line)))
+
+pub ends-none : (line : List ℕ) → length line ≡ 0 → Ends line 0
+unfolding unreturned
+ends-none [] h = record { counts = refl; bytes = refl }
+ends-none (b ∷ s) h = absurd (omega arith)
+
+pub ends-returned : (line : List ℕ) → getD line (length line - 1) 0 ≡ 13 → Ends line (length line - 1)
+unfolding unreturned
+ends-returned line h = record {
+  counts = sym (length-take-le (length line - 1) line (omega arith));
+  bytes = rw (eq-eqb (getD line (length line - 1) 0) 13 h) refl;
+}
+
+pub ends-plain : (line : List ℕ) → (getD line (length line - 1) 0 ≡ 13 → ⊥) → Ends line (length line)
+unfolding unreturned
+ends-plain line h = record {
+  counts = sym (length-take-le (length line) line (omega arith));
+  bytes = rw (ne-eqb (getD line (length line - 1) 0) 13 h) (take-all (length line) line (omega arith));
+}
+
+-- ---- a whole line
+
+pub line-long : (line : List ℕ) → 4096 < length line → lineOf line ≡ bad
+unfolding lineOf
+line-long line l = rw (lt-ltb 4096 (length line) l) refl
+
+pub says-long : (line : List ℕ) (r : Call) → 4096 < length line → (r .verb ≡ VerbBad) × (r .count ≡ 0) → Says line r
+says-long line r l p = record { exact = rw (p .0, p .1) (line-long line l); few = omega arith }
+
+-- a line says what its bare line says
+pub says-bare : (line : List ℕ) (a e : ℕ) (r : Call) → length line ≤ 4096 → Starts line a → Ends (rest a line) e
+    → SaysBare (take e (rest a line)) r → Says line r
+unfolding lineOf
+says-bare line a e r l s n b =
+    let p : take e (rest a line) ≡ bare line = n .bytes ∙ ap unreturned (rest-is a line ∙ s .bytes) in
+    record { exact = rw (le-ltb 4096 (length line) l, ← p) (b .exact); few = b .few }

@@ -4,7 +4,7 @@ ghost use mathlib.Core.Path.{_≡_};
 ghost use Prim.Native.Nat.{ℕ, _≤_};
 ghost use lib.ListN.{length, take};
 ghost use Rattle.script.specs.Fields.{fieldsOf, Sought, NumbersSay};
-ghost use Rattle.script.specs.Line.{Says};
+ghost use Rattle.script.specs.Line.{Ends, Says, SaysBare, Starts};
 ghost use Rattle.script.specs.Gathered.{Keeps};
 use super::Call;
 use super::LONGEST;
@@ -48,15 +48,39 @@ pub fn keep(line: &mut [u8], used: usize, b: u8) -> usize
     used + 1
 }
 
-// What a line without its line feed says.
-pub fn parse(line: &[u8]) -> Call
-    ensures { λ r. ⌜ Says (now (line .entry)) r ⌝ }
+// Where a line begins: behind a byte-order mark, if it has one.
+fn start(line: &[u8]) -> usize
+    ensures { λ r. ⌜ Starts (now (line .entry)) r ⌝ }
+{
+    if line.len() < 3 {
+        return 0;
+    }
+    if check::same(&line[..3], b"\xef\xbb\xbf") {
+        return 3;
+    }
+    0
+}
+
+// Where a line ends: before a carriage return, if that is its last byte.
+fn end(line: &[u8]) -> usize
+    ensures { λ r. ⌜ Ends (now (line .entry)) r ⌝ }
+{
+    if line.len() == 0 {
+        return 0;
+    }
+    let last = line.len() - 1;
+    if line[last] == 13 {
+        return last;
+    }
+    line.len()
+}
+
+// What a bare line says: one without a byte-order mark and a carriage return.
+fn parse_bare(line: &[u8]) -> Call
+    ensures { λ r. ⌜ SaysBare (now (line .entry)) r ⌝ }
 {
     if line.len() == 0 {
         return plain(Verb::VerbSkip);
-    }
-    if LONGEST < line.len() {
-        return plain(Verb::VerbBad);
     }
     if line[0] == 35 {
         return plain(Verb::VerbSkip);
@@ -78,4 +102,17 @@ pub fn parse(line: &[u8]) -> Call
         count,
         numbers,
     }
+}
+
+// What a line without its line feed says.
+pub fn parse(line: &[u8]) -> Call
+    ensures { λ r. ⌜ Says (now (line .entry)) r ⌝ }
+{
+    if LONGEST < line.len() {
+        return plain(Verb::VerbBad);
+    }
+    let a = start(line);
+    let rest = &line[a..];
+    let e = end(rest);
+    parse_bare(&rest[..e])
 }

@@ -1,26 +1,14 @@
 use native.Mathlib.Omega.{arith}
-use Rattle.script.specs.LineLaws.{says-plain, line-none, line-long, line-note, line-low, line-high, line-call}
+use Rattle.script.specs.LineLaws.{says-bare, says-long}
 use borrow.Author.Needs.{needs}
 use Rattle.script.proofs.lines.parse.Statement.{statement}
 use Rattle.script.proofs.lines.parse.Tie as tie
 
 returns : tie.Need-returns
-returns c = says-plain _ _ _ (line-none _ (c .before .if1 .taken)) (c .plain .ensures)
+returns c = says-long _ _ (c .before .if1 .taken) (c .plain .ensures)
 
 returns-2 : tie.Need-returns-2
-returns-2 c = says-plain _ _ _ (line-long _ (c .before .if2 .taken)) (c .plain2 .ensures)
-
-returns-3 : tie.Need-returns-3
-returns-3 c = says-plain _ _ _ (line-note _ (omega arith) (omega arith) (c .before .if3 .taken)) (c .plain3 .ensures)
-
-returns-4 : tie.Need-returns-4
-returns-4 c = says-plain _ _ _ (line-low _ _ _ _ _ (record { some = omega arith; short = omega arith; first = c .before .before .before .before .before .before .before .if3 .left; cut = c .before .before .before .before .before .before .seek .ensures; verb = c .before .before .before .before .verb-of .ensures; row = c .before .before .before .arguments .ensures }) (c .before .if4 .taken)) (c .plain4 .ensures)
-
-returns-5 : tie.Need-returns-5
-returns-5 c = says-plain _ _ _ (line-high _ _ _ _ _ (record { some = omega arith; short = omega arith; first = c .before .before .before .before .before .before .before .before .before .if3 .left; cut = c .before .before .before .before .before .before .before .before .seek .ensures; verb = c .before .before .before .before .before .before .verb-of .ensures; row = c .before .before .before .before .before .arguments .ensures }) (c .before .if5 .taken)) (c .plain5 .ensures)
-
-returns-6 : tie.Need-returns-6
-returns-6 c = line-call _ _ _ _ _ (record { some = omega arith; short = omega arith; first = c .before .before .before .before .before .before .before .before .before .if3 .left; cut = c .before .before .before .before .before .before .before .before .seek .ensures; verb = c .before .before .before .before .before .before .verb-of .ensures; row = c .before .before .before .before .before .arguments .ensures }) (c .before .before .before .if4 .left) (c .before .if5 .left)
+returns-2 c = says-bare _ _ _ _ (omega arith) (c .before .before .before .before .start .ensures) (c .before .before .end .ensures) (c .parse-bare .ensures)
 
 pub parse-spec : {M : Type 1} → statement M
 parse-spec =
@@ -29,16 +17,10 @@ parse-spec =
     (λ c κs. search needs)
     returns
     (λ c κs. search needs)
-    returns-2
+    (λ c. search needs)
+    (λ c. search needs)
     (λ c. search needs)
     (λ c κs. search needs)
-    returns-3
-    (λ c κs. search needs)
     (λ c. search needs)
     (λ c κs. search needs)
-    (λ c κs. search needs)
-    (λ c κs. search needs)
-    returns-4
-    (λ c κs. search needs)
-    returns-5
-    returns-6)
+    returns-2)
