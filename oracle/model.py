@@ -7,6 +7,7 @@ Written from the page's words alone, with plain lists; nothing here is taken fro
 import sys
 
 TOP = 2**64 - 1
+MARK = b"\xef\xbb\xbf"  # the byte-order mark
 COUNTS = {"setup": (2, 2), "union": (2, 2), "add": (2, 24), "add_uncanonical": (2, 24), "lookup": (2, 24)}
 COUNTS.update((v, (1, 1)) for v in ("find", "classes_for_op", "id_to_node", "find_best_cost", "find_best"))
 COUNTS.update((v, (0, 0)) for v in ("rebuild", "classes", "nodes", "is_empty", "clean", "number_of_classes"))
@@ -192,15 +193,23 @@ def number(field):
     return int(field)
 
 
+def bare(line):
+    """The line without a byte-order mark at its start and a carriage return at its end."""
+    return line.removeprefix(MARK).removesuffix(b"\r")
+
+
 def answer(state, line):
     """The line that answers; none for what is passed over. state holds the graph, or nothing."""
-    if not line or (line[0:1] == b"#" and len(line) <= 4096):
+    if len(line) > 4096:
+        return "?"
+    line = bare(line)
+    if not line or line[0:1] == b"#":
         return None
     try:
         verb, *fields = line.split(b" ")
         verb, numbers = verb.decode("ascii"), [number(f) for f in fields]
         least, most = COUNTS[verb]
-        if not least <= len(numbers) <= most or len(line) > 4096:
+        if not least <= len(numbers) <= most:
             return "?"
     except (ValueError, KeyError):
         return "?"

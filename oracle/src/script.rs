@@ -6,6 +6,12 @@ const LONGEST: usize = 4_096;
 /// A line with more numbers is no call.
 const MOST: usize = 24;
 
+/// A line without a byte-order mark at its start and a carriage return at its end.
+fn bare(line: &[u8]) -> &[u8] {
+    let line = line.strip_prefix(b"\xef\xbb\xbf").unwrap_or(line);
+    line.strip_suffix(b"\r").unwrap_or(line)
+}
+
 /// Digits, no 0 in front of others, below 2^32.
 fn number(field: &[u8]) -> Option<u32> {
     if field.is_empty() || !field.iter().all(u8::is_ascii_digit) || (field.len() > 1 && field[0] == b'0') {
@@ -22,7 +28,7 @@ fn yes(is: bool) -> String {
     (if is { " yes" } else { " no" }).to_string()
 }
 
-/// What stands after the 0 of the answer, or the number of a refusal; none if the line is no call.
+/// What stands after the 0 of the answer, or the number of a refusal; none if the bare line is no call.
 fn call(graph: &mut Option<Graph>, lent: u64, line: &[u8]) -> Option<Answer<String>> {
     let mut fields = line.split(|b| *b == b' ');
     let verb = std::str::from_utf8(fields.next()?).ok()?;
@@ -34,7 +40,7 @@ fn call(graph: &mut Option<Graph>, lent: u64, line: &[u8]) -> Option<Answer<Stri
         "rebuild" | "classes" | "nodes" | "is_empty" | "clean" | "number_of_classes" | "total_number_of_nodes" => 0..=0,
         _ => return None,
     };
-    if line.len() > LONGEST || !takes.contains(&a.len()) {
+    if !takes.contains(&a.len()) {
         return None;
     }
     if verb == "setup" {
@@ -69,7 +75,11 @@ fn call(graph: &mut Option<Graph>, lent: u64, line: &[u8]) -> Option<Answer<Stri
 
 /// The line that answers a line, both without line feeds; none for what is passed over. `lent` is the number of words lent.
 pub fn answer(graph: &mut Option<Graph>, lent: u64, line: &[u8]) -> Option<String> {
-    if line.is_empty() || (line[0] == b'#' && line.len() <= LONGEST) {
+    if line.len() > LONGEST {
+        return Some("?".to_string());
+    }
+    let line = bare(line);
+    if line.is_empty() || line[0] == b'#' {
         return None;
     }
     Some(match call(graph, lent, line) {
