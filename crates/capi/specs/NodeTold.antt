@@ -1,5 +1,5 @@
--- The node of an id, as C asks for it: a list of the node's words. It is refused as `id_to_node` refuses, and by 8 where the list lent is too short for the words, as
--- document 01 has it of every list; a refusal leaves the list as it was.
+-- The node of an id, as C asks for it: a list of the node's words. It is refused as `id_to_node` refuses, and by 8 where the list lent is too short
+-- for the words, as document 01 has it of every list; a refusal leaves the list as it was.
 -- Assumes nothing.
 use mathlib.Core.List.{List, [], _∷_}
 use mathlib.Core.Path.{_≡_, subst, sym}
@@ -31,8 +31,8 @@ pub record AnsweredWords (ws : List ℕ) (i : ℕ) (list : List ℕ) (r : Reply)
   pub made : NodeSays ws i answer
   pub told : NodeTold (answer .out) (answer .node) list r list′
 
-pub answered-words : {ws : List ℕ} {i : ℕ} {list : List ℕ} {r : Reply} {list′ : List ℕ} (a : NodeAnswer) {o : NodeOut} → NodeSays ws i a → a .out ≡ o
-    → NodeTold o (a .node) list r list′ → AnsweredWords ws i list r list′
+pub answered-words : {ws : List ℕ} {i : ℕ} {list : List ℕ} {r : Reply} {list′ : List ℕ} (a : NodeAnswer) {o : NodeOut} → NodeSays ws i a
+    → a .out ≡ o → NodeTold o (a .node) list r list′ → AnsweredWords ws i list r list′
 answered-words {list = list} {r} {list′} a p e t = record {
   answer = a;
   made = p;

@@ -1,5 +1,5 @@
--- What C reads of an answer (document 01, "When a call says no"): its number, how many values go with it, and the values, of which no answer but a node has more than two; a
--- node's words go into a list. A value that is not there is 0.
+-- What C reads of an answer (document 01, "When a call says no"): its number, how many values go with it, and the values, of which no answer but a
+-- node has more than two; a node's words go into a list. A value that is not there is 0.
 -- Assumes nothing.
 use mathlib.Core.List.{List, [], _∷_}
 use mathlib.Core.Path.{_≡_, refl}

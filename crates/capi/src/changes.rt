@@ -1,5 +1,5 @@
 // The calls that change a graph.
-ghost use Rattle.language.specs.declared.Node.{Node as GhostNode};
+ghost use Rattle.language.specs.declared.Node.{Node};
 ghost use Rattle.egraph.specs.Adds.{AddSays, UncanonicalSays};
 ghost use Rattle.egraph.specs.Answers.{add-says, count-says, union-says};
 ghost use Rattle.egraph.specs.Rebuilds.{RebuildSays};
@@ -15,7 +15,8 @@ use language::Id;
 // The root of the node's class.
 #[no_mangle]
 pub extern "C" fn rimo_add(ws: &mut [u32], op: u32, payload: u32, kids: &[u32]) -> Reply
-    ensures { λ r. ⌜ AnsweredNode op payload (now (kids .entry)) (λ (x : GhostNode) (a : AddAnswer). AddSays (now (ws .entry)) x a (now (ws .exit))) add-says r ⌝ }
+    ensures { λ r. ⌜ AnsweredNode op payload (now (kids .entry))
+        (λ (x : Node) (a : AddAnswer). AddSays (now (ws .entry)) x a (now (ws .exit))) add-says r ⌝ }
 {
     let node = spelling::node_of(op, payload, kids);
     let a = egraph::add(ws, node);
@@ -25,7 +26,8 @@ pub extern "C" fn rimo_add(ws: &mut [u32], op: u32, payload: u32, kids: &[u32]) 
 // The id that the node has, which need not be a root.
 #[no_mangle]
 pub extern "C" fn rimo_add_uncanonical(ws: &mut [u32], op: u32, payload: u32, kids: &[u32]) -> Reply
-    ensures { λ r. ⌜ AnsweredNode op payload (now (kids .entry)) (λ (x : GhostNode) (a : AddAnswer). UncanonicalSays (now (ws .entry)) x a (now (ws .exit))) add-says r ⌝ }
+    ensures { λ r. ⌜ AnsweredNode op payload (now (kids .entry))
+        (λ (x : Node) (a : AddAnswer). UncanonicalSays (now (ws .entry)) x a (now (ws .exit))) add-says r ⌝ }
 {
     let node = spelling::node_of(op, payload, kids);
     let a = egraph::add_uncanonical(ws, node);

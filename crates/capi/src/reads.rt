@@ -1,5 +1,5 @@
 // The calls that answer one number and change nothing.
-ghost use Rattle.language.specs.declared.Node.{Node as GhostNode};
+ghost use Rattle.language.specs.declared.Node.{Node};
 ghost use Rattle.egraph.specs.Adds.{LookupSays};
 ghost use Rattle.egraph.specs.Answers.{count-says, find-says, flag-says, lookup-says};
 ghost use Rattle.egraph.specs.ClassLists.{TotalSays};
@@ -13,7 +13,7 @@ use language::Id;
 // The root of the node's class; no value where the table has no such node.
 #[no_mangle]
 pub extern "C" fn rimo_lookup(ws: &[u32], op: u32, payload: u32, kids: &[u32]) -> Reply
-    ensures { λ r. ⌜ AnsweredNode op payload (now (kids .entry)) (λ (x : GhostNode) (a : LookupAnswer). LookupSays (now (ws .entry)) x a) lookup-says r ⌝ }
+    ensures { λ r. ⌜ AnsweredNode op payload (now (kids .entry)) (λ (x : Node) (a : LookupAnswer). LookupSays (now (ws .entry)) x a) lookup-says r ⌝ }
 {
     let node = spelling::node_of(op, payload, kids);
     let a = egraph::lookup(ws, node);

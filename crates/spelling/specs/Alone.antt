@@ -1,5 +1,5 @@
--- One node in a list of its own, in words (document 01, "The steps": in a lent slice a node is operator, payload, child count, children): it stands at the start of the list
--- and the rest of the list is as it was, or the list is too short for it and left as it was.
+-- One node in a list of its own, in words (document 01, "The steps": in a lent slice a node is operator, payload, child count, children): it stands
+-- at the start of the list and the rest of the list is as it was, or the list is too short for it and left as it was.
 -- Assumes nothing.
 use mathlib.Core.List.{List}
 use mathlib.Core.Path.{_≡_, ap, refl}

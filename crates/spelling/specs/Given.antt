@@ -1,5 +1,5 @@
--- The node that plain numbers give: an operator, a payload and a list of children (document 01, "What a graph may hold"). A list of more children than a node may have gives
--- a node whose count says so, and a call refuses it by 5.
+-- The node that plain numbers give: an operator, a payload and a list of children (document 01, "What a graph may hold"). A list of more children
+-- than a node may have gives a node whose count says so, and a call refuses it by 5.
 -- Assumes nothing.
 use mathlib.Core.List.{List, [], _∷_, _++_}
 use mathlib.Core.Path.{_≡_, _∙_, ap, sym}

@@ -26,7 +26,7 @@ fn filled(op: u32, payload: u32, kids: &[u32]) -> Node
     node
 }
 
-// The node. Where it has more children than a node may have they are counted as one too many and not kept: the call that takes the node refuses it by 5.
+// The node. More children than a node may have are counted as one too many and not kept: the call that takes the node refuses it by 5.
 pub fn node_of(op: u32, payload: u32, kids: &[u32]) -> Node
     ensures { λ r. ⌜ GivenNode op payload (now (kids .entry)) r ⌝ }
 {
