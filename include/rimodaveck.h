@@ -8,8 +8,9 @@
  * the library that made them: where things stand in them is not part of this interface.
  *
  * Nothing is asked of the numbers and words that are handed to a call: every call ends on any of them, touches nothing but what
- * it is lent, and refuses by number what it cannot do. A refused call leaves a graph that these calls made, and the list, as
- * they were. What the caller owes is what C cannot show:
+ * it is lent, and refuses by number what it cannot do, in the order in which its numbers stand below. A refused call leaves a
+ * graph that these calls made, and the list, as they were. On words that no calls could have left any call but setup may also
+ * refuse by 9, and never on others. What the caller owes is what C cannot show:
  *
  *   lengths     every pointer leads to as many words as the length beside it says. With a length of 0 the pointer may be null.
  *   alignment   every pointer is aligned to 4 bytes.
