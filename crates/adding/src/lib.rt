@@ -7,6 +7,8 @@
 //   rows      the keys of these ids
 //
 // The head in the words stays: `give` answers the new numbers. What each function promises: specs/Says.antt.
+#![tactic(auto)]
+
 ghost use Rattle.std.specs.Prelude.{◌≡◌, ◌<◌, ◌≤◌, length};
 ghost use Rattle.language.specs.Term.{places};
 ghost use Rattle.language.specs.Struct.{node_of};
@@ -18,7 +20,7 @@ use language::{Id, Node, wide};
 use layout::Head;
 
 // What the table has for a node: an id, nothing, or words that no calls could have produced.
-#[derive(Drop)]
+#[derive(Clone, Copy)]
 pub enum Seen {
     SeenAt(Id),
     SeenNone,
@@ -26,14 +28,14 @@ pub enum Seen {
 }
 
 // The key is the node with root children; it means something where nothing was seen.
-#[derive(Drop)]
+#[derive(Clone, Copy)]
 pub struct Probed {
     pub out: Seen,
     pub key: Node,
 }
 
 // An id that was there; a new one, with the new numbers of the head; no room for a new one; or words that no calls could have produced.
-#[derive(Drop)]
+#[derive(Clone, Copy)]
 pub enum Gave {
     GaveOld(Id),
     GaveNew(Head),

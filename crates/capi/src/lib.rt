@@ -12,10 +12,11 @@
 //     src/listing.rt   calls that write a list
 //     src/sizes.rt     sizes and cheapest forms
 //     src/replies.rt   an answer as the struct that C reads
+#![tactic(auto)]
 
 // Document 01's number, 0 for success, how many values go with it, and the values. A value that is not there is 0.
 #[repr(C)]
-#[derive(Drop)]
+#[derive(Clone, Copy)]
 pub struct Reply {
     pub number: u32,
     pub count: u32,

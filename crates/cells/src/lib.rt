@@ -8,6 +8,8 @@
 //
 // A list is read backwards from its last cell, as many cells as its length says: the link of a first cell means nothing, and nor do
 // the last and the first cell of an empty list. A cell is in one list at most. specs/Pool.antt says which lists the words hold.
+#![tactic(auto)]
+
 ghost use Rattle.std.specs.Prelude.{◌≡◌, ◌≢◌, ◌+◌, ◌≤◌, ◌<◌, ◌^◌, length};
 ghost use Rattle.cells.specs.Writes.{pick};
 ghost use Rattle.cells.specs.Trail.{trail};
@@ -17,21 +19,21 @@ ghost use Rattle.cells.specs.Reading.{Word, Reached};
 ghost use Rattle.cells.specs.Cuts.{Seen, Removed};
 
 // What a change answers: done, or words that no calls could have produced.
-#[derive(Drop)]
+#[derive(Clone, Copy)]
 pub enum Change {
     ChangeDone,
     ChangeBroken,
 }
 
 // A cell, or words that lead to none.
-#[derive(Drop)]
+#[derive(Clone, Copy)]
 pub enum Cell {
     CellAt(usize),
     CellBroken,
 }
 
 // A cell is taken out of its list, is not in it, or the words are no pool's.
-#[derive(Drop)]
+#[derive(Clone, Copy)]
 pub enum Cut {
     CutDone,
     CutAbsent,
@@ -39,7 +41,7 @@ pub enum Cut {
 }
 
 // Where a cell stands in a list: how many cells are before it, the index of the word that names it, and the cell that follows it, if one does.
-#[derive(Drop)]
+#[derive(Clone, Copy)]
 enum Spot {
     SpotAt(usize, usize, usize),
     SpotAbsent,

@@ -7,7 +7,7 @@ use super::drawing::{below, next};
 use language::{Id, Node, Op};
 
 // How many ids there are, and the generator's number.
-#[derive(Drop)]
+#[derive(Clone, Copy)]
 pub struct Built {
     pub ids: u32,
     pub seed: u64,

@@ -5,6 +5,8 @@
 // N ids were made; U unions of leaves were asked for, and Y of them answered yes; the rebuild answered R, and there are C classes after it. A graph has N / 5 leaves and,
 // over them, nodes with one child or two; unions of leaves bring congruences about, and these further ones. What is drawn comes from a linear congruential generator, so
 // that every run is the same. docs/COST.md says where the expected numbers come from, and what a rebuild costs.
+#![tactic(auto)]
+
 ghost use Rattle.std.specs.Prelude.{◌≤◌};
 
 mod building;

@@ -7,6 +7,8 @@
 //
 // A list of members is read backwards from its last id. On any words each walk ends: `check` says whether all of them together are no longer than there are ids and
 // meet only ids, and the functions after it ask for that. What each function promises: specs/.
+#![tactic(auto)]
+
 ghost use Rattle.std.specs.Prelude.{◌<◌, length};
 ghost use Rattle.lists.specs.Tests.{Says};
 ghost use Rattle.layout.specs.Head.{HeadOk};
@@ -17,7 +19,7 @@ use language::Id;
 use layout::Head;
 
 // How many nodes there are in all classes, or words that no calls could have produced.
-#[derive(Drop)]
+#[derive(Clone, Copy)]
 pub enum Total {
     TotalIs(usize),
     TotalBroken,

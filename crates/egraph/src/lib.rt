@@ -2,6 +2,8 @@
 // back once. Names and argument order follow egg's `EGraph`; `&mut self` is the lent words.
 //
 // What the calls answer is an enum for each kind of answer; specs/Answers.antt gives document 01's number and values for each case.
+#![tactic(auto)]
+
 ghost use Rattle.std.specs.Prelude.{◌≡◌, ◌<◌};
 ghost use Rattle.egraph.specs.Answers.{number_of};
 
@@ -9,7 +11,7 @@ use language::{Id, Node};
 use layout::Head;
 
 // Why a call says no, in the order of document 01's table, 1 to 9.
-#[derive(Drop)]
+#[derive(Clone, Copy)]
 pub enum Refusal {
     BadLimits,
     TooFewWords,
@@ -22,32 +24,32 @@ pub enum Refusal {
     BrokenWords,
 }
 
-#[derive(Drop)]
+#[derive(Clone, Copy)]
 pub enum SetupAnswer {
     SetupDone,
     SetupNot(Refusal),
 }
 
-#[derive(Drop)]
+#[derive(Clone, Copy)]
 pub enum FindAnswer {
     FindRoot(Id),
     FindNot(Refusal),
 }
 
-#[derive(Drop)]
+#[derive(Clone, Copy)]
 pub enum CountAnswer {
     CountIs(usize),
     CountNot(Refusal),
 }
 
-#[derive(Drop)]
+#[derive(Clone, Copy)]
 pub enum FlagAnswer {
     FlagYes,
     FlagNo,
     FlagNot(Refusal),
 }
 
-#[derive(Drop)]
+#[derive(Clone, Copy)]
 pub enum UnionAnswer {
     UnionYes,
     UnionNo,
@@ -55,55 +57,55 @@ pub enum UnionAnswer {
 }
 
 // The root of the id that the table has for a node, or none.
-#[derive(Drop)]
+#[derive(Clone, Copy)]
 pub enum LookupAnswer {
     LookupFound(Id),
     LookupNone,
     LookupNot(Refusal),
 }
 
-#[derive(Drop)]
+#[derive(Clone, Copy)]
 pub enum AddAnswer {
     AddId(Id),
     AddNot(Refusal),
 }
 
 // The head that was read, or why there is none.
-#[derive(Drop)]
+#[derive(Clone, Copy)]
 enum Gate {
     GateTo(Head),
     GateNot(Refusal),
 }
 
-#[derive(Drop)]
+#[derive(Clone, Copy)]
 pub enum NodeOut {
     NodeIs,
     NodeNot(Refusal),
 }
 
 // A node, which is a leaf of operator 0 where it is refused.
-#[derive(Drop)]
+#[derive(Clone, Copy)]
 pub struct NodeAnswer {
     pub out: NodeOut,
     pub node: Node,
 }
 
 // Where a walk over the nodes of a class stands, from the last back in node order: how many nodes are still to come, and an id that has the next of them.
-#[derive(Drop)]
+#[derive(Clone, Copy)]
 pub struct Cursor {
     pub left: usize,
     pub id: Id,
 }
 
 // Broken are words that no calls could have produced.
-#[derive(Drop)]
+#[derive(Clone, Copy)]
 pub enum NodesRead {
     NodesAt(Cursor),
     NodesBroken,
 }
 
 // How many words of a list were written into the slice that the caller lends for it.
-#[derive(Drop)]
+#[derive(Clone, Copy)]
 pub enum ListAnswer {
     ListWords(usize),
     ListNot(Refusal),

@@ -1,5 +1,7 @@
 // Sizes of classes and cheapest forms, with AstSize: egg's `Extractor` over words that the caller lends. The graph is read through its promises: the head, the root that `find` answers,
 // and the nodes of each class, by which `pricing` works the prices out in the scratch part. That part is 0 before the work, else the words are broken, and is set to 0 after it: no word changes.
+#![tactic(auto)]
+
 ghost use Rattle.std.specs.Prelude.{true, ◌≡◌, ◌<◌, length};
 ghost use Rattle.layout.specs.Head.{HeadIs};
 ghost use Rattle.layout.specs.View.{hd};
@@ -11,28 +13,28 @@ use language::Id;
 use layout::Head;
 
 // A class, by its root, and its price; broken are words that no calls could have produced.
-#[derive(Drop)]
+#[derive(Clone, Copy)]
 pub enum Priced {
     PricedIs(Id, u64),
     PricedBroken,
 }
 
 // A size.
-#[derive(Drop)]
+#[derive(Clone, Copy)]
 pub enum CostAnswer {
     CostIs(u64),
     CostNot(Refusal),
 }
 
 // A size, and how many words of a form were written.
-#[derive(Drop)]
+#[derive(Clone, Copy)]
 pub enum FormAnswer {
     FormIs(u64, usize),
     FormNot(Refusal),
 }
 
 // A size, and how many classes are listed; broken are words that no calls could have produced.
-#[derive(Drop)]
+#[derive(Clone, Copy)]
 pub enum Outline {
     OutlineIs(u64, usize),
     OutlineBroken,

@@ -8,6 +8,8 @@
 //
 // and of the graph, by the promise of `egraph`, the node of an id with root children. On any words a place that leads nowhere makes `measure_form` answer broken;
 // `put_form` asks that there is none.
+#![tactic(auto)]
+
 ghost use Rattle.std.specs.Prelude.{ℕ, ◌+◌, ◌<◌, ◌≤◌, length};
 ghost use Rattle.language.specs.Term.{places};
 ghost use Rattle.language.specs.Struct.{node_of};
@@ -22,21 +24,21 @@ use language::{Id, Node, Op, wide};
 use layout::Head;
 
 // Whether a node could be read, and every child has a place; broken are words that no calls could have produced.
-#[derive(Drop)]
+#[derive(Clone, Copy)]
 pub enum Placing {
     PlacingDone,
     PlacingBroken,
 }
 
 // The node means something where `out` says done.
-#[derive(Drop)]
+#[derive(Clone, Copy)]
 pub struct Placed {
     pub out: Placing,
     pub node: Node,
 }
 
 // How many words a node or a form takes.
-#[derive(Drop)]
+#[derive(Clone, Copy)]
 pub enum FormLength {
     FormLengthIs(usize),
     FormLengthBroken,

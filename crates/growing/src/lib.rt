@@ -10,6 +10,8 @@
 //   pending   it is pushed
 //
 // The head in the words stays: `grow` answers the new numbers. The steps before it answer done, or broken for words that no calls could have produced.
+#![tactic(auto)]
+
 ghost use Rattle.std.specs.Prelude.{◌≡◌, ℕ, ◌+◌, ◌<◌, ◌≤◌, length};
 ghost use Rattle.lists.specs.Reads.{at};
 ghost use Rattle.lists.specs.Tests.{Says};
@@ -32,14 +34,14 @@ use layout::Head;
 use parts::Found;
 
 // Whether every child has a root; broken are words that no calls could have produced.
-#[derive(Drop)]
+#[derive(Clone, Copy)]
 pub enum Rooting {
     RootingDone,
     RootingBroken,
 }
 
 // The node means something where `out` says done.
-#[derive(Drop)]
+#[derive(Clone, Copy)]
 pub struct Rooted {
     pub out: Rooting,
     pub node: Node,

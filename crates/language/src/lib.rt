@@ -1,6 +1,8 @@
 // A node in hand, as a value: ids and operators, each of a type of its own, and a node with a fixed row of eight children.
 // A node is matched, ordered, compared, hashed and re-childed by its own methods, which hand the changed node back.
 // `node_of` of specs/Struct.antt says what a node means: places of the row past the count mean nothing.
+#![tactic(auto)]
+
 ghost use Rattle.std.specs.Prelude.{◌≡◌, ◌+◌, ◌≤◌, ◌<◌, ◌^◌, length};
 ghost use mathlib.Core.List.{[], foldl};
 ghost use Rattle.std.proofs.lemmas.List.Edits.{sets};
@@ -18,13 +20,13 @@ const FACTOR: u64 = 2654435769;
 
 const WORDS: u64 = 4294967296;
 
-#[derive(Drop)]
+#[derive(Clone, Copy)]
 pub struct Id(pub u32);
 
-#[derive(Drop)]
+#[derive(Clone, Copy)]
 pub struct Op(pub u32);
 
-#[derive(Drop)]
+#[derive(Clone, Copy)]
 pub struct Node {
     pub op: Op,
     pub payload: u32,
@@ -32,7 +34,7 @@ pub struct Node {
     pub kids: [Id; PLACES],
 }
 
-#[derive(Drop)]
+#[derive(Clone, Copy)]
 pub enum Ordering {
     Less,
     Equal,

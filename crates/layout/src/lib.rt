@@ -15,6 +15,8 @@
 //
 // Words of the head: 0 n, 1 m, 2 ids, 3 places, 4 depth of pending, 5 classes, 6 clean (0 or 1); 7 to 31 are spare, and 0 after setup.
 // A function that lends a part writes its bounds in the sums of `lower` and `upper` of specs/Cut.antt, and promises `Lent` of specs/Lent.antt.
+#![tactic(auto)]
+
 pub mod arrays; // arrays.rt: owners and scratch, which are plain arrays
 
 ghost use Rattle.std.specs.Prelude.{◌≡◌, ◌≤◌, ◌<◌, length, replicate};
@@ -30,7 +32,7 @@ pub use arrays::{
 };
 
 // The numbers that stand in the head.
-#[derive(Drop)]
+#[derive(Clone, Copy)]
 pub struct Head {
     pub n: usize,
     pub m: usize,
@@ -41,7 +43,7 @@ pub struct Head {
     pub clean: bool,
 }
 
-#[derive(Drop)]
+#[derive(Clone, Copy)]
 pub enum HeadRead {
     HeadGood(Head),
     HeadBad,

@@ -7,6 +7,8 @@
 // The words are an array of `main`'s. It is handed on by reference, and the calls that take the words as a slice stand in functions of
 // their own: by reference a million words are proved as these are. With such a call in `main` itself the check still proves an array of
 // 100,000 words, and runs out of stack at a million.
+#![tactic(auto)]
+
 ghost use Rattle.std.specs.Prelude.{true, [], ◌∷◌, ◌≡◌};
 ghost use Rattle.marking.specs.Marks.{Added, AddedOver, Begun, Earned, Marked, RootSays, Stated, childless, mark_of};
 
@@ -26,7 +28,7 @@ const PLACES: Op = Op(2);
 const DECIMAL: Op = Op(3);
 
 // What is said of an answer: nothing, where a call that the mark rests on was refused.
-#[derive(Drop)]
+#[derive(Clone, Copy)]
 enum Mark {
     MarkRight,
     MarkWrong,
@@ -34,7 +36,7 @@ enum Mark {
 }
 
 // The marks of 0.50 and of 0.05.
-#[derive(Drop)]
+#[derive(Clone, Copy)]
 struct Marks {
     careful: Mark,
     mistaken: Mark,

@@ -8,10 +8,12 @@
 // The depth, which is the number of entries, is the caller's to keep. To take the id pushed last, the caller asks for the `top`. One id: the depth
 // falls by one. A stretch: the id is the owner of its last place, and `push_stretch` at the depth below puts the stretch without that place there.
 // What the words stand for is specs/Moves.antt's `Pending`.
+#![tactic(auto)]
+
 ghost use Rattle.std.specs.Prelude.{◌+◌, ◌≤◌, ◌<◌, ◌^◌, length};
 ghost use Rattle.pending.specs.Promise.{Loaded, Pushes, PushesStretch, Tops};
 
-#[derive(Drop)]
+#[derive(Clone, Copy)]
 pub enum OnTop {
     TopOne(usize),
     TopMany(usize, usize),

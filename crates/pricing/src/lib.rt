@@ -8,6 +8,8 @@
 //
 // Of the graph are read, by the promises of `egraph`: the nodes of a class, from the last one back, and the node of an id with root children. An id that is no root has
 // no nodes, so that a pass runs over all ids.
+#![tactic(auto)]
+
 ghost use Rattle.std.specs.Prelude.{◌≡◌, ◌+◌, ◌<◌, ◌≤◌, ◌^◌, min, length};
 ghost use Rattle.language.specs.Term.{places};
 ghost use Rattle.language.specs.Struct.{node_of};
@@ -34,35 +36,35 @@ const CAP: u64 = 18446744073709551615;
 const WORD: u64 = 4294967296;
 
 // A price and the node that earned it: `mark` is 0 for none, else 1 and an id that has the node.
-#[derive(Drop)]
+#[derive(Clone, Copy)]
 pub struct Entry {
     pub mark: usize,
     pub price: u64,
 }
 
 // The price of a node, or none if a child has none; broken are words that no calls could have produced.
-#[derive(Drop)]
+#[derive(Clone, Copy)]
 pub enum NodeCost {
     NodeCostIs(u64),
     NodeCostNone,
     NodeCostBroken,
 }
 
-#[derive(Drop)]
+#[derive(Clone, Copy)]
 pub enum Chosen {
     ChosenIs(Entry),
     ChosenBroken,
 }
 
 // How many entries were taken.
-#[derive(Drop)]
+#[derive(Clone, Copy)]
 pub enum Taken {
     TakenIs(usize),
     TakenBroken,
 }
 
 // Whether the passes have come to their end.
-#[derive(Drop)]
+#[derive(Clone, Copy)]
 pub enum Found {
     CostsFound,
     CostsBroken,

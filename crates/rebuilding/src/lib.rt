@@ -1,6 +1,8 @@
 // A rebuild, inside a call: pending entries are taken until there is none (taking), the key rows are brought up to date (rechilding), and each class gets its
 // nodes sorted, duplicates dropped (tidying). The words are a graph's, with the head h read before; the head in the words stays, and the new numbers are answered.
 // What each function promises: specs/Rebuilding.antt.
+#![tactic(auto)]
+
 ghost use Rattle.std.specs.Prelude.{length};
 ghost use Rattle.layout.specs.Head.{HeadOk};
 ghost use Rattle.rebuilding.specs.Rebuilding.{FinishSays, RebuildSays};

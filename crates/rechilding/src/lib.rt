@@ -7,6 +7,8 @@
 //   table     an id whose key row was out of date leaves, where it still stands under that dead key
 //
 // What the table says of live keys stays: the id that it has for one is up to date already. The head in the words stays. What each function promises: specs/.
+#![tactic(auto)]
+
 ghost use Rattle.std.specs.Prelude.{◌<◌, ◌≤◌, length};
 ghost use Rattle.language.specs.Struct.{node_of};
 ghost use Rattle.language.specs.Term.{places};

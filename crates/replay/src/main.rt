@@ -1,4 +1,6 @@
 // Reads a script of calls on standard input and answers it line by line (crate replaying).
+#![tactic(auto)]
+
 fn main() {
     let mut ws = [0u32; replaying::WORDS];
     let mut list = [0u32; replaying::LIST];

@@ -2,6 +2,8 @@
 // that of the crate `script`. The programs `replay` and `replay_kept` are this and nothing else.
 //
 // The words, the room for a list, the line that is being read and the answers that are not written out yet are four arrays of the program, lent on from there.
+#![tactic(auto)]
+
 use script::Reply;
 
 // What limits n = 8,192 and m = 32,768 need.
@@ -17,7 +19,7 @@ pub const LINE: usize = 4097;
 pub const OUT: usize = 1048576;
 
 // A reply, and how many words of the list go with it.
-#[derive(Drop)]
+#[derive(Clone, Copy)]
 pub struct Told {
     pub reply: Reply,
     pub words: usize,
@@ -25,7 +27,7 @@ pub struct Told {
 
 // What is under way: how many bytes of a line have been read, how many bytes of answers are not written out yet, whether there may be more to read, and whether a read or
 // a write has failed.
-#[derive(Drop)]
+#[derive(Clone, Copy)]
 pub struct Progress {
     pub used: usize,
     pub at: usize,

@@ -10,6 +10,8 @@
 //     n + n + n + n + m      m        at each place a child of the key
 //
 // Places are handed out in order, so that the places of two ids never meet. `Rows` of specs/Rows.antt says which nodes the words hold.
+#![tactic(auto)]
+
 ghost use Rattle.std.specs.Prelude.{◌≡◌, ◌+◌, ◌≤◌, ◌<◌, ◌^◌, length, take, drop};
 ghost use Rattle.language.specs.Term.{places};
 ghost use Rattle.language.specs.Struct.{node_of};
@@ -20,21 +22,21 @@ ghost use Rattle.rows.specs.Promise.{Reads, Given, Key, Stored, Keyed};
 use language::{Id, Node, Op, put_kids, wide};
 
 // Whether a read found a node, or a child count or places that no calls could have written.
-#[derive(Drop)]
+#[derive(Clone, Copy)]
 pub enum Fetch {
     FetchDone,
     FetchBroken,
 }
 
 // What a read found. The node is a leaf where it found none.
-#[derive(Drop)]
+#[derive(Clone, Copy)]
 pub struct Fetched {
     pub out: Fetch,
     pub node: Node,
 }
 
 // Whether a key was set, or the words have no places for it.
-#[derive(Drop)]
+#[derive(Clone, Copy)]
 pub enum Rekey {
     RekeyDone,
     RekeyBroken,

@@ -7,6 +7,8 @@
 //     4n + 2m + n                n        words to work in
 //
 // A merge sort from the top down. A merge drops what is equal, so that a run is strictly ascending and needs no last pass.
+#![tactic(auto)]
+
 ghost use Rattle.std.specs.Prelude.{◌≡◌, true, ◌+◌, ◌-◌, ◌≤◌, ◌<◌, ◌^◌, length};
 ghost use Rattle.lists.specs.Reads.{at};
 ghost use Rattle.lists.specs.Tests.{Says};
@@ -22,14 +24,14 @@ ghost use Rattle.sorting.specs.Promise.{Sorts};
 use language::{Id, Ordering, wide};
 
 // How many ids are left; or that one of the words is no id.
-#[derive(Drop)]
+#[derive(Clone, Copy)]
 pub enum Sorted {
     SortedTo(usize),
     SortedBroken,
 }
 
 // One turn of a merge: where the next id is, and what is left of the two stretches, a ids at i and b ids at j.
-#[derive(Drop)]
+#[derive(Clone, Copy)]
 struct Turn {
     from: usize,
     i: usize,

@@ -7,6 +7,8 @@
 //     place + 3  count    its children
 //
 // The place behind it is the next node's. `words` and `spell` of language's specs/Term.antt say the same of plain nodes.
+#![tactic(auto)]
+
 ghost use Rattle.std.specs.Prelude.{◌≡◌, ◌+◌, ◌≤◌, length};
 ghost use Rattle.language.specs.Term.{places, words};
 ghost use Rattle.language.specs.Struct.{node_of};
@@ -16,7 +18,7 @@ ghost use Rattle.spelling.specs.Alone.{SpellsOne};
 use language::{Node, put_kids, wide};
 
 // One node in a list of its own: how many words it took, or that the list is too short for it.
-#[derive(Drop)]
+#[derive(Clone, Copy)]
 pub enum Spelled {
     SpelledWords(usize),
     SpelledLong,

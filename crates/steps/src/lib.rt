@@ -1,1 +1,2 @@
 // The abstract machine of document 01. All of it is in specs/.
+#![tactic(auto)]

@@ -8,6 +8,8 @@
 //
 // The key of an id is not here: it is the id's key row in the stored nodes (crate `rows`), whose words `ask` only reads.
 // An id is in one bucket at most, that of its key's hash. `Table` of specs/Table.antt says which table the words hold.
+#![tactic(auto)]
+
 ghost use Rattle.std.specs.Prelude.{◌≡◌, ◌≤◌, ◌<◌, length};
 ghost use Rattle.language.specs.Term.{places};
 ghost use Rattle.language.specs.Struct.{node_of};
@@ -24,7 +26,7 @@ use language::{Id, Node};
 const WORDS: u64 = 4294967296;
 
 // The id in the table that has a key, none, or words that no calls could have produced.
-#[derive(Drop)]
+#[derive(Clone, Copy)]
 pub enum Asked {
     AskedAt(Id),
     AskedNone,
@@ -32,7 +34,7 @@ pub enum Asked {
 }
 
 // Whether the key of an id is the one that is looked for.
-#[derive(Drop)]
+#[derive(Clone, Copy)]
 enum Compared {
     ComparedSame,
     ComparedOther,

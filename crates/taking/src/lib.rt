@@ -9,11 +9,13 @@
 //   forest    if an id had the key, the two are united (crate `uniting`, which also works on uses, pending and members)
 //
 // The head in the words stays: a step answers the new numbers. What each function promises: specs/Take.antt, Rekey.antt, Close.antt and Enough.antt.
+#![tactic(auto)]
+
 use language::Id;
 use layout::Head;
 
 // The id taken and the new numbers of the head; or nothing is pending; or words that no calls could have produced.
-#[derive(Drop)]
+#[derive(Clone, Copy)]
 pub enum Taken {
     TakenId(Id, Head),
     TakenNone,
@@ -21,7 +23,7 @@ pub enum Taken {
 }
 
 // The id that had the key before, if there was one; or words that no calls could have produced.
-#[derive(Drop)]
+#[derive(Clone, Copy)]
 enum Rekeyed {
     RekeyedFrom(Id),
     RekeyedNew,
@@ -29,7 +31,7 @@ enum Rekeyed {
 }
 
 // Whether two classes were joined, each with the new numbers of the head; or words that no calls could have produced.
-#[derive(Drop)]
+#[derive(Clone, Copy)]
 enum Closed {
     ClosedYes(Head),
     ClosedNo(Head),
@@ -37,7 +39,7 @@ enum Closed {
 }
 
 // An entry taken: the new numbers of the head, and how many yes answers there were, 0 or 1; or nothing is pending; or words that no calls could have produced.
-#[derive(Drop)]
+#[derive(Clone, Copy)]
 enum Entry {
     EntryOne(Head, usize),
     EntryNone,
@@ -45,7 +47,7 @@ enum Entry {
 }
 
 // Nothing is pending any more: the new numbers of the head, the yes answers, the entries taken; or words that no calls could have produced, or too many entries.
-#[derive(Drop)]
+#[derive(Clone, Copy)]
 pub enum Drained {
     DrainedTo(Head, usize, usize),
     DrainedBroken,

@@ -1,1 +1,2 @@
 // What the promises of the calls come to: outcomes that are one, and the words from setup on, through any calls. All of it is in specs/.
+#![tactic(auto)]

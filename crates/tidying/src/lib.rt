@@ -7,6 +7,8 @@
 //   rows      the keys by which the ids are sorted; only read
 //
 // The head in the words stays: `tidy` answers the new numbers. What each function promises: specs/.
+#![tactic(auto)]
+
 ghost use Rattle.std.specs.Prelude.{◌<◌, ◌≤◌, length};
 ghost use Rattle.layout.specs.Cut.{members, sorting};
 ghost use Rattle.layout.specs.Head.{HeadOk};

@@ -12,6 +12,8 @@
 // and, first, what `find` answers on no words: 3, as document 01's case O says.
 //
 // The 0s are what is claimed. A and B are what came out of a run: egg has no words that could be broken so, and no other source says them.
+#![tactic(auto)]
+
 mod answers;
 mod building;
 mod calls;

@@ -22,7 +22,7 @@ pub const LAPSES: usize = 12;
 pub const NINES: usize = 13;
 
 // How many words of an array changed of those that the call was lent and its limits need; how many changed of all others.
-#[derive(Drop)]
+#[derive(Clone, Copy)]
 pub struct Change {
     pub inside: u64,
     pub outside: u64,

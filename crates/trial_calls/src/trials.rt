@@ -6,7 +6,7 @@ use super::words::{FROM, SIZE, TO, draw, next};
 use super::{building, calls, spoiling, tally};
 
 // Where the words that a call is lent end, where those of them end that its limits need, and where the slice for a list ends.
-#[derive(Drop)]
+#[derive(Clone, Copy)]
 struct Plan {
     end: usize,
     reach: usize,

@@ -5,6 +5,8 @@
 //     .., 0 refused calls changed a word          and none that answered that it refuses changed any word
 //     .., 0 idle calls changed a word             and none that had nothing to do
 //     NAME answers ..                             what the calls on good words answer
+#![tactic(auto)]
+
 mod nodes;
 mod tally;
 mod text;

@@ -4,7 +4,7 @@ ghost use Rattle.std.specs.Prelude.{◌<◌, ◌≤◌};
 use super::words::SIZE;
 
 // How many calls there were; how many words outside what was lent they changed; how many of those that must change no word changed one.
-#[derive(Drop)]
+#[derive(Clone, Copy)]
 pub struct Tally {
     pub calls: u64,
     pub outside: u64,

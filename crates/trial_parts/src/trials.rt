@@ -7,7 +7,7 @@ use super::{
     try_cells, try_layout, try_pending, try_rows, try_sorting, try_table, try_unionfind, words,
 };
 
-#[derive(Drop)]
+#[derive(Clone, Copy)]
 pub enum Part {
     PartUnionfind,
     PartCells,
@@ -19,7 +19,7 @@ pub enum Part {
 }
 
 // What is lent to be changed are the words from `lo` to `hi`. Words are spoilt with numbers below `bound`.
-#[derive(Drop)]
+#[derive(Clone, Copy)]
 struct Plan {
     lo: usize,
     hi: usize,

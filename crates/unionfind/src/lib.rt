@@ -6,12 +6,14 @@
 //
 // How many ids there are is the caller's to keep. The words may be any: each function ends, stays inside the slice and says in its promise
 // (specs/Promise.antt) what it does; on words that hold a forest (specs/Forest.antt) it does what a union-find does.
+#![tactic(auto)]
+
 ghost use Rattle.std.specs.Prelude.{◌<◌, ◌≤◌, ◌^◌, length};
 ghost use Rattle.unionfind.specs.Words.{Loaded, Stored};
 ghost use Rattle.unionfind.specs.Promise.{MakesSet, Finds, FindsMut, Unites};
 
 // A root; or nothing, if the chain leaves the ids or does not end, which no forest does.
-#[derive(Drop)]
+#[derive(Clone, Copy)]
 pub enum Found {
     FoundRoot(usize),
     FoundLost,

@@ -7,6 +7,8 @@
 //   forest    the loser's root gets the stayer's for its parent
 //
 // The head in the words stays: a step answers the new numbers. What each function promises: specs/Says.antt.
+#![tactic(auto)]
+
 ghost use Rattle.std.specs.Prelude.{◌≢◌, ◌<◌, length};
 ghost use Rattle.layout.specs.Head.{HeadOk};
 ghost use Rattle.uniting.specs.Says.{MergeSays, JoinSays, UniteSays};
@@ -17,7 +19,7 @@ use layout::Head;
 use parts::Found;
 
 // Joined, or one class already, each with the new numbers of the head; or words that no calls could have produced.
-#[derive(Drop)]
+#[derive(Clone, Copy)]
 pub enum United {
     UnitedYes(Head),
     UnitedNo(Head),

@@ -9,6 +9,8 @@
 //
 // A step takes the class on top of the stack, and looks for the first child of its chosen node that is not listed. If there is one, it goes onto the stack; if there is
 // none, the class is listed and taken off.
+#![tactic(auto)]
+
 ghost use Rattle.std.specs.Prelude.{◌+◌, ◌<◌, ◌≤◌, length};
 ghost use Rattle.language.specs.Term.{places};
 ghost use Rattle.language.specs.Struct.{node_of};
@@ -24,7 +26,7 @@ use language::{Id, Node, wide};
 use layout::Head;
 
 // A child that is not listed, or none; broken are words that no calls could have produced.
-#[derive(Drop)]
+#[derive(Clone, Copy)]
 pub enum NextKid {
     NextKidIs(Id),
     NextKidNone,
@@ -32,20 +34,20 @@ pub enum NextKid {
 }
 
 // How far the walk has come: how many classes are listed, and how many stand on the stack.
-#[derive(Drop)]
+#[derive(Clone, Copy)]
 pub struct Reached {
     pub listed: usize,
     pub depth: usize,
 }
 
-#[derive(Drop)]
+#[derive(Clone, Copy)]
 pub enum Stepped {
     SteppedTo(Reached),
     SteppedBroken,
 }
 
 // How many classes are listed.
-#[derive(Drop)]
+#[derive(Clone, Copy)]
 pub enum Listed {
     ListedIs(usize),
     ListedBroken,

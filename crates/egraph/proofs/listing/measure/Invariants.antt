@@ -1,0 +1,14 @@
+use mathlib.Core.Path.{◌≡◌}
+use Prim.Native.Nat.{◌<◌, ◌≤◌, ◌*◌, ◌-◌, ℕ}
+use lib.ListN.{length}
+use Rattle.language.specs.Term.{spell}
+use Rattle.layout.specs.View.{view}
+use Rattle.rows.specs.Read.{Sane}
+use Rattle.egraph.specs.Stored.{stored}
+use Rattle.egraph.proofs.listing.measure.Given as goal
+
+abbrev pub invariant-loop-i : goal.invariant-loop-i
+invariant-loop-i l = (l.i ≤ l.ids) × (l.total ≡ length (spell (stored (view l.h.n l.h.m l.ws).rows l.h.n l.h.m l.i))) × (l.total ≤ 11 * l.i) × ((j : ℕ) → j < l.i → Sane (view l.h.n l.h.m l.ws).rows l.h.n l.h.m j)
+
+abbrev pub decreases-loop-i : goal.decreases-loop-i
+decreases-loop-i l = l.ids - l.i

@@ -1,0 +1,8 @@
+use native.Mathlib.Omega.{arith}
+use Rattle.layout.specs.Lent.{lent_part}
+use Rattle.layout.specs.Cut.{sorting}
+use borrow.Author.Rules.{rules}
+use Rattle.layout.proofs.arrays.set_work.Goals as goal
+
+pub returns : goal.returns
+returns c = lent_part _ _ _ c.store.new.ws (omega arith) sorting _ (search rules) c.store.ensures

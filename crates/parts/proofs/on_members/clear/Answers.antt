@@ -1,0 +1,8 @@
+use native.Mathlib.Omega.{arith}
+use Rattle.layout.specs.Cut.{members}
+use Rattle.layout.specs.Lent.{lent_part}
+use borrow.Author.Rules.{rules}
+use Rattle.parts.proofs.on_members.clear.Goals as goal
+
+pub returns : goal.returns
+returns c = lent_part _ _ _ c.clear.new.ws (omega arith) members _ (search rules) c.clear.ensures

@@ -1,0 +1,8 @@
+use native.Mathlib.Omega.{arith}
+use Rattle.layout.specs.Cut.{table}
+use Rattle.layout.specs.Lent.{lent_part}
+use borrow.Author.Rules.{rules}
+use Rattle.parts.proofs.on_table.enter.Goals as goal
+
+pub returns : goal.returns
+returns c = lent_part _ _ _ c.enter.new.ts (omega arith) table _ (search rules) c.enter.ensures

@@ -1,0 +1,10 @@
+use mathlib.Core.Path.{◌≡◌}
+use Prim.Native.Nat.{ℕ, ◌≤◌, ◌<◌, ◌-◌}
+use lib.ListN.{length, get_or}
+use Rattle.script.proofs.fields.seek.Given as goal
+
+abbrev pub invariant-loop-i : goal.invariant-loop-i
+invariant-loop-i l = (l.i ≤ length l.s) × ((k : ℕ) → k < l.i → get_or l.s k 0 ≡ l.b → ⊥)
+
+abbrev pub decreases-loop-i : goal.decreases-loop-i
+decreases-loop-i l = length l.s - l.i

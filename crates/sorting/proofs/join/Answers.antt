@@ -1,0 +1,8 @@
+use Rattle.sorting.specs.Join.{joins_ready, joins_merged}
+use Rattle.sorting.proofs.join.Goals as goal
+
+pub returns-then-meets : goal.returns-then-meets
+returns-then-meets c = joins_ready _ _ _ _ _ _ _ (c.meets.ensures c.if-meets.true)
+
+pub returns : goal.returns
+returns c = joins_merged _ _ _ _ _ _ _ _ _ _ c.requires c.merge-d.ensures c.copy.ensures.0 c.copy.ensures.1
