@@ -27,4 +27,4 @@ bounds-ws-gn-2 c = simp length-set (omega arith)
 pub returns : goal.returns
 returns c = let s = c.requires in
     rw (c.choose-first.ensures, c.wide-seam.ensures.0)
-    (join_done _ _ _ _ _ s.0 s.1.0 s.1.1 s.1.2 (omega arith) (omega arith) (omega arith))
+    (join_done _ _ _ _ _ s.room s.stay_lt_lists.0 s.stay_lt_lists.1 s.stay_lt_lists.2 (omega arith) (omega arith) (omega arith))

@@ -22,7 +22,7 @@ pub put_kids-requires-2 : goal.put_kids-requires-2
 put_kids-requires-2 c = (omega (arith, c.requires), rw c.put_kids.ensures (simp (length-sets, length-set) (omega (arith, c.requires))))
 
 pub shape_of-ws : goal.shape_of-ws
-shape_of-ws c = c.put_kids-2.auto.0 ∙ c.put_kids.auto.0 ∙ simp length-set
+shape_of-ws c = c.put_kids-2.auto.ws ∙ c.put_kids.auto.ws ∙ simp length-set
 
 pub returns : goal.returns
 returns c = let x = c.args.node in
