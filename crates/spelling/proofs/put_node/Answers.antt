@@ -9,7 +9,7 @@ pub put_kids-requires : goal.put_kids-requires
 put_kids-requires c = (c.requires.0, simp length-set (omega arith))
 
 pub shape_of-out : goal.shape_of-out
-shape_of-out c = c.put_kids.auto.out ∙ simp length-set
+shape_of-out c = c.put_kids.auto.ws ∙ simp length-set
 
 pub returns : goal.returns
 returns c = let x = c.args.node in

@@ -7,7 +7,9 @@ pub returns-then-x-y : goal.returns-then-x-y
 returns-then-x-y c = unite_same _ _ _ _ _ _ c.find_mut.ensures _ _ c.find_mut-in-FoundRoot.ensures _ _ (ap bare_found c.in-FoundRoot.is) (ap bare_found c.in-FoundRoot-find_mut.is) c.requires.head_ok c.if-x-y.true
 
 pub join_roots-requires : goal.join_roots-requires
-join_roots-requires c = unite_roots _ _ _ _ _ _ c.find_mut.ensures _ _ c.find_mut-in-FoundRoot.ensures _ _ (ap bare_found c.in-FoundRoot.is) (ap bare_found c.in-FoundRoot-find_mut.is) c.requires.head_ok c.if-x-y.false
+join_roots-requires c =
+    let both = unite_roots _ _ _ _ _ _ c.find_mut.ensures _ _ c.find_mut-in-FoundRoot.ensures _ _ (ap bare_found c.in-FoundRoot.is) (ap bare_found c.in-FoundRoot-find_mut.is) c.requires.head_ok c.if-x-y.false in
+    record { head_ok = both.0; a_lt_ids = both.1 }
 
 pub returns-in-FoundLost : goal.returns-in-FoundLost
 returns-in-FoundLost c = unite_lost _ _ _ _ _ _ c.find_mut.ensures (ap bare_found c.in-FoundLost.is)

@@ -2,7 +2,9 @@ use Rattle.taking.specs.Close.{close_asks, close_broken, close_new, close_no, cl
 use Rattle.taking.proofs.drains.close.Goals as goal
 
 pub unite-requires : goal.unite-requires
-unite-requires c = close_asks _ _ _ _ c.requires.head_ok _ c.rekey.ensures _ c.in-RekeyedFrom.is c.requires.id_lt_ids
+unite-requires c =
+    let both = close_asks _ _ _ _ c.requires.head_ok _ c.rekey.ensures _ c.in-RekeyedFrom.is c.requires.id_lt_ids in
+    record { head_ok = both.0; i_lt_ids = both.1 }
 
 pub returns-in-RekeyedBroken : goal.returns-in-RekeyedBroken
 returns-in-RekeyedBroken c = close_broken _ _ _ _ c.requires.head_ok _ c.rekey.ensures c.in-RekeyedBroken.is

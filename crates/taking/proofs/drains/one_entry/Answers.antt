@@ -2,7 +2,9 @@ use Rattle.taking.specs.Entry.{entry_asks, entry_broken, entry_no, entry_none, e
 use Rattle.taking.proofs.drains.one_entry.Goals as goal
 
 pub close-requires : goal.close-requires
-close-requires c = entry_asks _ _ _ _ c.take.ensures _ _ c.in-TakenId.is
+close-requires c =
+    let both = entry_asks _ _ _ _ c.take.ensures _ _ c.in-TakenId.is in
+    record { head_ok = both.0; id_lt_ids = both.1 }
 
 pub returns-in-TakenNone : goal.returns-in-TakenNone
 returns-in-TakenNone c = entry_none _ _ _ _ c.take.ensures c.in-TakenNone.is
