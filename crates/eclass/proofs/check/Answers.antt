@@ -20,13 +20,13 @@ pub check_class-requires : goal.check_class-requires
 check_class-requires c = record { head_ok = c.requires; r_lt_ids = omega arith }
 
 pub returns-then-not-check_class : goal.returns-then-not-check_class
-returns-then-not-check_class c = broken_class _ _ _ _ _ c.loop-i.i _ (omega arith) c.check_class.ensures (not-true _ c.if-not-check_class.true)
+returns-then-not-check_class c = broken_class _ _ _ _ _ c.loop-i.i _ (omega arith) c.check_class.ensures c.if-not-check_class.true
 
 pub overflow_add-i : goal.overflow_add-i
 overflow_add-i c = omega (arith, c.requires.ids_in, c.requires.n_high)
 
 pub loop-i-preserved : goal.loop-i-preserved
-loop-i-preserved c = (omega arith, all_more _ _ _ _ _ c.loop-i.i _ c.loop-i.invariant.1 c.check_class.ensures (not-false _ c.if-not-check_class.false))
+loop-i-preserved c = (omega arith, all_more _ _ _ _ _ c.loop-i.i _ c.loop-i.invariant.1 c.check_class.ensures c.if-not-check_class.false)
 
 pub returns : goal.returns
 returns c = all_whole _ _ _ _ _ _ _ c.loop-i.i c.count_nodes.ensures c.in-TotalIs.is (omega arith) c.loop-i.invariant.1
