@@ -3,7 +3,6 @@
 -- Assumes nothing.
 use Rattle.std.specs.Prelude.{List, [], ◌∷◌, ℕ}
 use Rattle.language.specs.Term.{Term}
-use Rattle.steps.specs.Forced.{then}
 
 infixr 20 ◌then◌
 mutual

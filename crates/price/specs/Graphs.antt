@@ -9,7 +9,7 @@ use Rattle.lists.specs.Members.{Mem, here, there}
 use Rattle.lists.specs.Reads.{at, lt_more}
 use Rattle.language.specs.Term.{Term}
 use Rattle.steps.specs.Classes.{class_nodes, class_roots, number_of_classes}
-use Rattle.steps.specs.Forced.{Made, then}
+use Rattle.steps.specs.Forced.{Made}
 use Rattle.steps.specs.Graph.{Graph, ids, node, root}
 use Rattle.steps.specs.Machine.{grow, merge}
 use Rattle.closure.specs.Facts.{node_new, node_old}

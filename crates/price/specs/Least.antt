@@ -12,7 +12,6 @@ use Rattle.lists.specs.Members.{Mem, here, mem-cases, mem-nil, minus, minus_has,
 use Rattle.lists.specs.Options.{some_inj}
 use Rattle.lists.specs.Tests.{when_yes}
 use Rattle.language.specs.Term.{Term}
-use Rattle.steps.specs.Forced.{then}
 use Rattle.price.specs.Form.{Form, Forms, In, InEach, ◌then◌, form, in_map, no_form}
 use Rattle.price.specs.Pass.{Best, Table, accept, after, best, final, look, pass, priced, prices, turn}
 use Rattle.price.specs.Reads.{AtMost, Priced, TurnsKeep, Under, after_keeps, best_from, best_low, look_here, look_nil, look_past, pass_under, priced_from, prices_from, prices_low, turn_low, turn_under}

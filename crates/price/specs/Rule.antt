@@ -3,7 +3,6 @@
 -- Assumes nothing.
 use Rattle.std.specs.Prelude.{List, [], ◌∷◌, ℕ}
 use Rattle.lists.specs.Members.{Mem}
-use Rattle.steps.specs.Forced.{then}
 use Rattle.price.specs.Form.{Form, Forms, ◌then◌, form, no_form}
 
 -- place by place

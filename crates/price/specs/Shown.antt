@@ -12,7 +12,6 @@ use Rattle.lists.specs.Members.{Mem, here, mem-cases, mem-nil, there}
 use Rattle.lists.specs.Options.{none≢some, some_inj}
 use Rattle.lists.specs.Tests.{when, when_no, when_yes, zero_one}
 use Rattle.language.specs.Term.{Term}
-use Rattle.steps.specs.Forced.{then}
 use Rattle.steps.specs.Graph.{node}
 use Rattle.closure.specs.Facts.{node_new, node_old}
 use Rattle.price.specs.Chosen.{Backed, Deep, Ranked, SoonerIn, backed, no_circle, ranked, sooner_in_self, sooner_in_trans}

@@ -6,7 +6,7 @@ use Rattle.std.proofs.Math.Option.{some}
 use Rattle.std.proofs.Math.Decide.{dec_le}
 use Rattle.std.proofs.Common.{arith}
 use Rattle.steps.specs.Classes.{class_nodes, class_roots}
-use Rattle.steps.specs.Forced.{Made, then}
+use Rattle.steps.specs.Forced.{Made}
 use Rattle.steps.specs.Graph.{Graph, ids, root}
 use Rattle.price.specs.Adding.{Adding, add_on, adding}
 use Rattle.price.specs.Chosen.{backed}
