@@ -12,7 +12,7 @@ pub cost_open-requires : goal.cost_open-requires
 cost_open-requires c = record { head_is = head_is _ _ _ _ c.read_head.ensures c.in-HeadGood.is; id_lt_ids = (omega arith, c.if-h.true) }
 
 pub returns-then-h : goal.returns-then-h
-returns-then-h c = record { same = c.cost_open.ensures.0; says = opened _ _ c.read_head.ensures _ c.in-HeadGood.is (λ p. pass (omega (arith, ids_is p)) (far_or_near _ _) (pass (sym (clean_is p) ∙ c.if-h.true) (unclean_or _) c.cost_open.ensures.1)) }
+returns-then-h c = record { same = c.cost_open.ensures.ws_unchanged; says = opened _ _ c.read_head.ensures _ c.in-HeadGood.is (λ p. pass (omega (arith, ids_is p)) (far_or_near _ _) (pass (sym (clean_is p) ∙ c.if-h.true) (unclean_or _) c.cost_open.ensures.cost_open)) }
 
 pub returns-in-HeadBad : goal.returns-in-HeadBad
 returns-in-HeadBad c = record { same = refl; says = shut _ _ c.read_head.ensures c.in-HeadBad.is refl }

@@ -14,7 +14,7 @@ pub form_open-requires : goal.form_open-requires
 form_open-requires c = record { head_is = head_is _ _ _ _ c.read_head.ensures c.in-HeadGood.is; id_lt_ids = (omega arith, c.if-h.true) }
 
 pub returns-then-h : goal.returns-then-h
-returns-then-h c = record { same = c.form_open.ensures.0; inside = c.form_open.ensures.1.fair.inside; says = opened _ _ c.read_head.ensures _ c.in-HeadGood.is (λ p. pass (omega (arith, ids_is p)) (far_or_near _ _) (pass (sym (clean_is p) ∙ c.if-h.true) (unclean_or _) c.form_open.ensures.1)) }
+returns-then-h c = record { same = c.form_open.ensures.ws_unchanged; inside = c.form_open.ensures.form_open.fair.inside; says = opened _ _ c.read_head.ensures _ c.in-HeadGood.is (λ p. pass (omega (arith, ids_is p)) (far_or_near _ _) (pass (sym (clean_is p) ∙ c.if-h.true) (unclean_or _) c.form_open.ensures.form_open)) }
 
 pub returns-in-HeadBad : goal.returns-in-HeadBad
 returns-in-HeadBad c = record { same = refl; inside = no_form _ BadHead; says = shut _ _ c.read_head.ensures c.in-HeadBad.is (refl, refl) }
