@@ -9,7 +9,7 @@ use Prim.Native.Nat.{◌+◌, ◌<◌, ◌≤◌, suc, zero, ℕ}
 use Rattle.std.proofs.Math.Decide.{ℕ_discrete}
 use Rattle.std.proofs.Math.ListN.{length, length-append}
 use Rattle.lists.specs.Members.{Mem, here, mem-append-cases, mem-cases, mem-left, mem-nil, mem_one, mem-right, there}
-use Rattle.lists.specs.Reads.{at, length_more}
+use Rattle.lists.specs.Reads.{length_more}
 use Rattle.lists.specs.Tests.{eq_or, when}
 
 -- ---- the numbers below n, ascending

@@ -1,7 +1,6 @@
 use mathlib.Core.Path.{◌≡◌, refl}
-use Prim.Native.Nat.{◌-◌}
 use native.Mathlib.Omega.{arith}
-use lib.ListN.{length, length-set}
+use lib.ListN.{length-set}
 use Rattle.language.proofs.Sized.{sized}
 use Rattle.language.specs.Struct.{node_of}
 use Rattle.language.specs.Loops.{put_more}

@@ -1,7 +1,7 @@
 use mathlib.Core.Path.{◌≡◌, ◌∙◌}
-use Prim.Native.Nat.{◌-◌, min}
+use Prim.Native.Nat.{min}
 use native.Mathlib.Omega.{arith}
-use Rattle.language.specs.Loops.{seen, seen_none, seen_in, seen_out, seen_all}
+use Rattle.language.specs.Loops.{seen_none, seen_in, seen_out, seen_all}
 use Rattle.language.proofs.Sized.{sized}
 use Rattle.language.proofs.Node.order_kids.Goals as goal
 use Rattle.language.proofs.Node.order_kids.Goals.{then-i-n, else-i-n}
@@ -15,7 +15,7 @@ loop-i-preserved c = let f = sized c.args.self c.well_formed.0 in
     let g = sized c.args.other c.well_formed.1.0 in (
       omega arith,
       elim c.if-i-n.branch [
-        then-i-n w ↦ w.o-is ∙ w.then-o.ensures ∙ rw w.order_words.ensures (seen_in c.args.self c.args.other f g c.loop-i.i c.wide-n.result c.loop-i.o w.if-i-n.true (omega arith) c.loop-i.invariant.1)
+        | then-i-n w ↦ w.o-is ∙ w.then-o.ensures ∙ rw w.order_words.ensures (seen_in c.args.self c.args.other f g c.loop-i.i c.wide-n.result c.loop-i.o w.if-i-n.true (omega arith) c.loop-i.invariant.1)
         | else-i-n w ↦ w.o-is ∙ seen_out c.args.self c.args.other f g c.loop-i.i c.wide-n.result c.loop-i.o w.if-i-n.false c.loop-i.invariant.1
       ],
     )

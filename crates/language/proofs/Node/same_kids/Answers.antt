@@ -1,9 +1,7 @@
 use mathlib.Core.Path.{◌≡◌, refl}
-use Prim.Native.Nat.{◌-◌}
 use native.Mathlib.Omega.{arith}
 use Rattle.language.proofs.Sized.{sized}
 use Rattle.lists.specs.Tests.{says_yes, says_no}
-use Rattle.language.specs.Struct.{row}
 use Rattle.language.specs.Loops.{rows_more, kids_equal, kids_differ}
 use Rattle.language.proofs.Node.same_kids.Goals as goal
 
