@@ -6,8 +6,8 @@ use Rattle.std.proofs.Common.{sym}
 use Rattle.std.proofs.Math.Decide.{ℕ_discrete}
 use Rattle.lists.specs.Keeps.{any, filter_from, mem_filter, mem_upto, upto, upto_lt}
 use Rattle.lists.specs.Members.{Mem, mem-map, mem-of-map}
-use Rattle.lists.specs.Sorted.{Ascending, filter_ascending, one_list, upto_ascending}
-use Rattle.language.specs.Ordered.{Before, before_self, order_trans}
+use Rattle.lists.specs.Sorted.{Ascending, filter_ascending, upto_ascending}
+use Rattle.language.specs.Ordered.{Before}
 use Rattle.language.specs.Sorted.{sorted_ascending, sorted_from, sorted_has}
 use Rattle.language.specs.Term.{Term}
 use Rattle.steps.specs.Classes.{class_nodes, class_roots, classes_for_op, members}
@@ -31,10 +31,6 @@ module _ (g : Graph) where
 
   pub nodes_has : (r : ℕ) (x : Term) → NodeOf g r x → Mem x (class_nodes g r)
   nodes_has r x h = rw h.3 (sorted_has (key_of g h.0) (map (key_of g) (members g r)) (mem-map (key_of g) (mem_filter (λ (i : ℕ). ℕ_discrete (root g.roots i) r) (upto (ids g)) (mem_upto (ids g) h.0 h.1) h.2)))
-
-  -- any list that is ascending and has just these nodes is the list
-  pub nodes_one : (r : ℕ) (l : List Term) → Ascending Before l → ((x : Term) → Mem x l → NodeOf g r x) → ((x : Term) → NodeOf g r x → Mem x l) → l ≡ class_nodes g r
-  nodes_one r l a from has = one_list Before order_trans before_self a (nodes_ascending r) (λ x m. nodes_has r x (from x m)) (λ x m. has x (nodes_from r x m))
 
   -- ---- the classes
 
