@@ -21,7 +21,8 @@ use Rattle.holds.specs.ParentsLaws.{parents_fresh}
 use Rattle.layout.specs.Cut.{members, need, rows, scratch, table, uses}
 use Rattle.layout.specs.Head.{HeadIs, HeadOk, numbers}
 use Rattle.layout.specs.Lent.{Lent, lent_next}
-use Rattle.layout.specs.View.{View, get_length, hd, put, put_head, view, view_rest}
+use Rattle.layout.specs.View.{View, hd, put, put_head, view, view_rest}
+use Rattle.layout.proofs.Sizes.{get_length}
 use Rattle.layout.specs.Written.{Noted, fresh_head, fresh_is, fresh_numbers, fresh_spare, noted_hd, noted_is}
 use Rattle.rows.specs.Determined.{rows_none}
 use Rattle.rows.specs.Rows.{size}

@@ -14,7 +14,7 @@ use Rattle.egraph.specs.declared.Refusal.TheVariants.{BrokenWords}
 use Rattle.holds.specs.Holds.{Holds}
 use Rattle.layout.specs.Cut.{scratch}
 use Rattle.layout.specs.Head.{HeadIs, numbers}
-use Rattle.layout.specs.Idle.{lent_back}
+use Rattle.layout.proofs.Idle.{lent_back}
 use Rattle.layout.specs.Lent.{Lent, lent_twice}
 use Rattle.layout.specs.View.{hd, view}
 use Rattle.layout.specs.declared.Head.{Head}

@@ -17,7 +17,8 @@ use Rattle.holds.specs.ParentsLaws.{parents_link}
 use Rattle.layout.specs.Cut.{owners, uses}
 use Rattle.layout.specs.Head.{HeadOk}
 use Rattle.layout.specs.Lent.{Lent, Stored, lent_next}
-use Rattle.layout.specs.View.{View, get_length, put, view}
+use Rattle.layout.specs.View.{View, put, view}
+use Rattle.layout.proofs.Sizes.{get_length}
 use Rattle.layout.specs.declared.Head.{Head}
 
 -- ---- one place

@@ -1,13 +1,12 @@
--- A part that was lent and left as it was: nothing at all has changed. So it is too where the part has come back as it was, whatever was done with it meanwhile.
+-- A part that was lent and left as it was: nothing at all has changed. (`lent_back` of proofs, Idle: so it is too where the part has come back as it was.)
 -- Assumes nothing.
 use Rattle.std.specs.Prelude.{List, ◌≡◌, refl, ℕ}
-use Rattle.std.proofs.Common.{◌∙◌, ap, sym}
+use Rattle.std.proofs.Common.{sym}
 use Rattle.layout.specs.Cut.{Part, forest, members, owners, pending, rows, scratch, sorting, table, uses}
 use Rattle.layout.specs.Lent.{Lent}
 use Rattle.layout.specs.View.{View, get, put, view}
-use Rattle.layout.specs.Whole.{view_whole}
 
-put_get : (k : Part) (v : View) → put k v (get k v) ≡ v
+pub put_get : (k : Part) (v : View) → put k v (get k v) ≡ v
 put_get forest v = refl
 put_get rows v = refl
 put_get sorting v = refl
@@ -21,7 +20,3 @@ put_get scratch v = refl
 -- a part that was left as it was
 pub lent_same : {k : Part} {n m : ℕ} {P : List ℕ → List ℕ → Type 0} (ws : List ℕ) → P (get k (view n m ws)) (get k (view n m ws)) → Lent k n m P ws ws
 lent_same {k} {n} {m} ws p = record { size = refl; else = sym (put_get k (view n m ws)); did = p }
-
--- a part that has come back as it was
-pub lent_back : {k : Part} {n m : ℕ} {P : List ℕ → List ℕ → Type 0} {ws ws' : List ℕ} → Lent k n m P ws ws' → get k (view n m ws') ≡ get k (view n m ws) → ws' ≡ ws
-lent_back {k} {n} {m} {P} {ws} {ws'} t e = view_whole n m ws' ws (t.else ∙ ap (put k (view n m ws)) e ∙ put_get k (view n m ws))

@@ -1,14 +1,11 @@
 -- What is left when one part was lent: the length stays, nothing but the part has changed, and what the callee promised holds between the part before and after.
--- `lent_part` is the one law that every function that lends a part cites; `Lent-both` is the same for the rows lent together with the sort's work area.
+-- `lent_part` of proofs, Lent, is the one law that every function that lends a part cites; `LentBoth` is the same for the rows lent together with the sort's work area.
 -- Assumes nothing.
-use Rattle.std.specs.Prelude.{List, ◌≡◌, ◌-◌, ◌<◌, ◌^◌, ◌≤◌, ℕ, drop, length, set}
-use Rattle.std.proofs.Common.{◌∙◌, ap, subst, sym, arith}
-use borrow.Rule.Slice.PartMut.{same_len_mid}
-use Rattle.lists.specs.Parts.{part, part_length, with_part}
+use Rattle.std.specs.Prelude.{List, ◌≡◌, ◌<◌, ◌^◌, ℕ, drop, length, set}
+use Rattle.std.proofs.Common.{◌∙◌, ap, subst, sym}
 use Rattle.lists.specs.Reads.{at}
-use Rattle.layout.specs.Back.{back, back_view}
-use Rattle.layout.specs.Cut.{Part, lower, need, upper, upper_need}
-use Rattle.layout.specs.View.{View, get, get_part, get_put, hd, put, put_head_of, put_put, put_rest_of, view, view_head, view_rest}
+use Rattle.layout.specs.Cut.{Part, need}
+use Rattle.layout.specs.View.{View, get, hd, put, put_head_of, put_put, put_rest_of, view, view_head, view_rest}
 
 -- P holds between the part k before and after, and nothing else has changed
 pub record Lent (k : Part) (n m : ℕ) (P : List ℕ → List ℕ → Type 0) (ws ws' : List ℕ) : Type 0 where
@@ -23,20 +20,6 @@ Stored i v l l' = l' ≡ set l i v
 pub record Loaded (l : List ℕ) (i r : ℕ) : Type 0 where
   pub is : r ≡ at l i
   pub low : r < 2 ^ 32
-
-module _ (n m : ℕ) (ws ys : List ℕ) (lent : need n m ≤ length ws) where
-  -- what a part that was lent leaves, where P is what the callee promised of it
-  pub lent_part : (k : Part) (P : List ℕ → List ℕ → Type 0) → length ys ≡ length (part ws (lower k n m) (upper k n m))
-      → P (part ws (lower k n m) (upper k n m)) ys → Lent k n m P ws (with_part ws (lower k n m) (upper k n m) ys)
-  lent_part k P e p =
-      let l : length ys ≡ upper k n m - lower k n m = e ∙ part_length ws (lower k n m) (upper k n m) (omega (arith, upper_need k n m)) in
-      let v = back_view n m ws ys lent k l in
-      let g : get k (view n m (back n m k ws ys)) ≡ ys = ap (get k) v ∙ get_put k (view n m ws) ys in
-      record {
-        size = same_len_mid (lower k n m) (upper k n m - lower k n m) ws ys e;
-        else = rw g v;
-        did = rw (g, get_part k n m ws) p;
-      }
 
 -- ---- chains
 

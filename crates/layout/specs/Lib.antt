@@ -1,6 +1,5 @@
 pub mod Cut
 pub mod View
-pub mod Whole
 pub mod Back
 pub mod Lent
 pub mod Idle

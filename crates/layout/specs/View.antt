@@ -2,10 +2,10 @@
 -- `get` and `put` read and replace one part; for parts that are written out both compute, so that a chain of them is `refl`.
 -- Assumes nothing.
 use Rattle.std.specs.Prelude.{List, ◌≡◌, refl, ◌<◌, ◌≤◌, ℕ, drop, length, take}
-use Rattle.std.proofs.Common.{◌∙◌, ap, arith, get_or-take, length-take-le}
-use Rattle.lists.specs.Parts.{part, part_length}
+use Rattle.std.proofs.Common.{get_or-take, length-take-le}
+use Rattle.lists.specs.Parts.{part}
 use Rattle.lists.specs.Reads.{at}
-use Rattle.layout.specs.Cut.{Part, forest, rows, sorting, uses, owners, members, table, pending, scratch, lower, upper, size, need, upper_is, upper_need}
+use Rattle.layout.specs.Cut.{Part, forest, rows, sorting, uses, owners, members, table, pending, scratch, lower, upper, need}
 
 -- the head of the words
 unfoldable pub hd : List ℕ → List ℕ
@@ -131,12 +131,6 @@ get_part members n m ws = refl
 get_part table n m ws = refl
 get_part pending n m ws = refl
 get_part scratch n m ws = refl
-
-pub part_size : (k : Part) (n m : ℕ) (ws : List ℕ) → need n m ≤ length ws → length (part ws (lower k n m) (upper k n m)) ≡ size k n m
-part_size k n m ws h = part_length ws (lower k n m) (upper k n m) (omega (arith, upper_need k n m)) ∙ omega (arith, upper_is k n m)
-
-pub get_length : (k : Part) (n m : ℕ) (ws : List ℕ) → need n m ≤ length ws → length (get k (view n m ws)) ≡ size k n m
-get_length k n m ws h = ap length (get_part k n m ws) ∙ part_size k n m ws h
 
 pub hd_length : (ws : List ℕ) → 32 ≤ length ws → length (hd ws) ≡ 32
 unfolding hd

@@ -18,7 +18,8 @@ use Rattle.egraph.specs.ClassReads.{Classed}
 use Rattle.layout.specs.Cut.{need, scratch}
 use Rattle.layout.specs.Idle.{lent_same}
 use Rattle.layout.specs.Lent.{Lent, lent_map, lent_twice}
-use Rattle.layout.specs.View.{get_length, view}
+use Rattle.layout.specs.View.{view}
+use Rattle.layout.proofs.Sizes.{get_length}
 use Rattle.layout.specs.declared.Head.{Head}
 use Rattle.price.specs.Pass.{Best, Table, accept, best, look, turn}
 use Rattle.price.specs.Size.{AstSize, cap}

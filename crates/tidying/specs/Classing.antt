@@ -16,7 +16,8 @@ use Rattle.layout.specs.Both.{LentBoth, both_next}
 use Rattle.layout.specs.Cut.{members, need, sorting}
 use Rattle.layout.specs.Head.{HeadOk}
 use Rattle.layout.specs.Lent.{Lent, Next, lent_next}
-use Rattle.layout.specs.View.{View, get_length, put, view}
+use Rattle.layout.specs.View.{View, put, view}
+use Rattle.layout.proofs.Sizes.{get_length}
 use Rattle.layout.specs.declared.Head.{Head}
 use Rattle.sorting.specs.Promise.{Sorts}
 use Rattle.sorting.specs.declared.Sorted.{Sorted}

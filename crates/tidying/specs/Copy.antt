@@ -12,7 +12,8 @@ use Rattle.cells.specs.declared.Change.{Change}
 use Rattle.cells.specs.declared.Change.TheVariants.{ChangeBroken, ChangeDone}
 use Rattle.layout.specs.Cut.{need, sorting}
 use Rattle.layout.specs.Lent.{Lent, Stored, lent_map, lent_twice}
-use Rattle.layout.specs.View.{View, get_length, view}
+use Rattle.layout.specs.View.{View, view}
+use Rattle.layout.proofs.Sizes.{get_length}
 
 -- what `copy` promises of the work area: where k is the length of the list, the first k words are the list
 pub record Copies (ms : List ℕ) (n a k : ℕ) (r : Change) (s s' : List ℕ) : Type 0 where

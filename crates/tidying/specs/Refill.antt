@@ -12,7 +12,8 @@ use Rattle.cells.specs.declared.Change.{Change}
 use Rattle.cells.specs.declared.Change.TheVariants.{ChangeBroken, ChangeDone}
 use Rattle.layout.specs.Cut.{members, need, sorting}
 use Rattle.layout.specs.Lent.{Lent, Loaded, lent_map, lent_twice}
-use Rattle.layout.specs.View.{View, get_length, view}
+use Rattle.layout.specs.View.{View, view}
+use Rattle.layout.proofs.Sizes.{get_length}
 
 -- list a with the first i words of s at its end
 unfoldable pub fill : List (List ℕ) → ℕ → List ℕ → ℕ → List (List ℕ)

@@ -18,7 +18,8 @@ use Rattle.layout.specs.Cut.{scratch}
 use Rattle.layout.specs.Head.{HeadOk}
 use Rattle.layout.specs.Idle.{lent_same}
 use Rattle.layout.specs.Lent.{Lent, Loaded, Stored, lent_map, lent_twice}
-use Rattle.layout.specs.View.{View, get_length, view}
+use Rattle.layout.specs.View.{View, view}
+use Rattle.layout.proofs.Sizes.{get_length}
 use Rattle.layout.specs.declared.Head.{Head}
 use Rattle.price.specs.Chosen.{Backed, Ranked}
 use Rattle.price.specs.Listing.{Listing, with_places}

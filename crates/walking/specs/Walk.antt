@@ -17,7 +17,8 @@ use Rattle.layout.specs.Cut.{scratch}
 use Rattle.layout.specs.Head.{HeadIs, HeadOk}
 use Rattle.layout.specs.Idle.{lent_same}
 use Rattle.layout.specs.Lent.{Lent, Stored, lent_twice}
-use Rattle.layout.specs.View.{View, get_length, hd, view}
+use Rattle.layout.specs.View.{View, hd, view}
+use Rattle.layout.proofs.Sizes.{get_length}
 use Rattle.layout.specs.declared.Head.{Head}
 use Rattle.price.specs.Chosen.{Backed, Ranked, backed, no_circle, ranked}
 use Rattle.price.specs.Extract.{listing, table}

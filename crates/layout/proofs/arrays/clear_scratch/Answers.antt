@@ -1,6 +1,6 @@
 use native.Mathlib.Omega.{arith}
-use Rattle.layout.specs.View.{part_size}
-use Rattle.layout.specs.Lent.{lent_part}
+use Rattle.layout.proofs.Sizes.{part_size}
+use Rattle.layout.proofs.Lent.{lent_part}
 use Rattle.layout.specs.Cut.{scratch}
 use lib.ListN.{replicate}
 use Prim.Native.Nat.{ℕ}

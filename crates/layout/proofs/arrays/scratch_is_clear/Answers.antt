@@ -1,5 +1,6 @@
 use native.Mathlib.Omega.{arith}
-use Rattle.layout.specs.View.{part_size, view}
+use Rattle.layout.specs.View.{view}
+use Rattle.layout.proofs.Sizes.{part_size}
 use Rattle.layout.specs.Cut.{scratch}
 use Rattle.layout.proofs.arrays.scratch_is_clear.Goals as goal
 

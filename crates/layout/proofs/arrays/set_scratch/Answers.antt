@@ -1,5 +1,5 @@
 use native.Mathlib.Omega.{arith}
-use Rattle.layout.specs.Lent.{lent_part}
+use Rattle.layout.proofs.Lent.{lent_part}
 use Rattle.layout.specs.Cut.{scratch}
 use borrow.Author.Rules.{rules}
 use Rattle.layout.proofs.arrays.set_scratch.Goals as goal

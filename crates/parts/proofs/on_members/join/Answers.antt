@@ -1,6 +1,6 @@
 use native.Mathlib.Omega.{arith}
 use Rattle.layout.specs.Cut.{members}
-use Rattle.layout.specs.Lent.{lent_part}
+use Rattle.layout.proofs.Lent.{lent_part}
 use borrow.Author.Rules.{rules}
 use Rattle.parts.proofs.on_members.join.Goals as goal
 

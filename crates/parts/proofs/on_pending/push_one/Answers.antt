@@ -1,6 +1,6 @@
 use native.Mathlib.Omega.{arith}
 use Rattle.layout.specs.Cut.{pending}
-use Rattle.layout.specs.Lent.{lent_part}
+use Rattle.layout.proofs.Lent.{lent_part}
 use borrow.Author.Rules.{rules}
 use Rattle.parts.proofs.on_pending.push_one.Goals as goal
 

@@ -1,6 +1,6 @@
 use Rattle.parts.specs.Front.{front}
 use native.Mathlib.Omega.{arith}
-use Rattle.layout.specs.Both.{lent_both}
+use Rattle.layout.proofs.Both.{lent_both}
 use borrow.Author.Rules.{rules}
 use Rattle.parts.proofs.on_sorting.sort.Goals as goal
 

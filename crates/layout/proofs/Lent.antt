@@ -1,0 +1,25 @@
+-- The one law that every function that lends a part cites.
+-- Assumes nothing.
+use Rattle.std.specs.Prelude.{List, ◌≡◌, ◌-◌, ◌≤◌, ℕ, length}
+use Rattle.std.proofs.Common.{◌∙◌, ap, arith}
+use borrow.Rule.Slice.PartMut.{same_len_mid}
+use Rattle.lists.specs.Parts.{part, part_length, with_part}
+use Rattle.layout.specs.Back.{back}
+use Rattle.layout.specs.Cut.{Part, lower, need, upper, upper_need}
+use Rattle.layout.specs.Lent.{Lent}
+use Rattle.layout.specs.View.{get, get_part, get_put, view}
+use Rattle.layout.proofs.Back.{back_view}
+
+module _ (n m : ℕ) (ws ys : List ℕ) (lent : need n m ≤ length ws) where
+  -- what a part that was lent leaves, where P is what the callee promised of it
+  pub lent_part : (k : Part) (P : List ℕ → List ℕ → Type 0) → length ys ≡ length (part ws (lower k n m) (upper k n m))
+      → P (part ws (lower k n m) (upper k n m)) ys → Lent k n m P ws (with_part ws (lower k n m) (upper k n m) ys)
+  lent_part k P e p =
+      let l : length ys ≡ upper k n m - lower k n m = e ∙ part_length ws (lower k n m) (upper k n m) (omega (arith, upper_need k n m)) in
+      let v = back_view n m ws ys lent k l in
+      let g : get k (view n m (back n m k ws ys)) ≡ ys = ap (get k) v ∙ get_put k (view n m ws) ys in
+      record {
+        size = same_len_mid (lower k n m) (upper k n m - lower k n m) ws ys e;
+        else = rw g v;
+        did = rw (g, get_part k n m ws) p;
+      }

@@ -1,0 +1,6 @@
+pub mod Back
+pub mod Both
+pub mod Idle
+pub mod Lent
+pub mod Sizes
+pub mod Whole
