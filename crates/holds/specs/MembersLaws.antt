@@ -13,7 +13,8 @@ use Rattle.language.specs.Term.{Term, over_kids}
 use Rattle.steps.specs.Classes.{class_nodes}
 use Rattle.steps.specs.Graph.{Graph, canon, ids, key_of, node, root}
 use Rattle.closure.specs.Facts.{node_old, root_more, root_out, root_relabel}
-use Rattle.closure.specs.Listed.{nodes_from, nodes_has, nodes_one}
+use Rattle.closure.specs.Listed.{nodes_from, nodes_has}
+use Rattle.closure.proofs.Listed.{nodes_one}
 use Rattle.cells.specs.Changes.{Joined, Pushed}
 use Rattle.cells.specs.Empty.{empty_all}
 use Rattle.cells.specs.Join.{join_at, join_cases}
