@@ -1,8 +1,8 @@
 -- What owning a call tells: its row of numbers has all its places. `c.good.0` is a `Good` of the first parameter.
 -- Assumes nothing.
 use mathlib.Core.Path.{◌≡◌}
-use mathlib.Core.List.{List, [], ◌∷◌}
-use lib.ListN.{length, length-map}
+use mathlib.Core.List.{[], ◌∷◌}
+use lib.ListN.{length}
 use denote.Laws.{Is}
 use denote.Struct.Declared.{row}
 use denote.Struct.Laws.{val}
@@ -15,4 +15,4 @@ abbrev pub Good : Call → Type 0
 Good x = Is (row the_type) x (val the_type the_laws x ∷ [])
 
 pub sized : (x : Call) → Good x → length x.numbers ≡ most_numbers
-sized x g = rw length-map at g.1.1.1.1.0.1.0.1
+sized x g = g.1.1.1.1.0.1.0.1

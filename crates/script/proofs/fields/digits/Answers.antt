@@ -1,5 +1,4 @@
 use mathlib.Core.Path.{refl, sym, ap, ◌∙◌}
-use Prim.Native.Nat.{◌-◌}
 use borrow.Author.Rules.{rules}
 use Rattle.script.specs.Decimal.{small}
 use Rattle.script.specs.FieldsLaws.{digits_over, digits_step, digits_stop, digits_end}

@@ -1,5 +1,4 @@
 use Rattle.script.specs.FieldsLaws.{number_none, number_one, number_zero, number_more}
-use Prim.Native.Nat.{◌-◌}
 use mathlib.Core.Path.{◌∙◌}
 use native.Mathlib.Omega.{arith}
 use Rattle.script.proofs.fields.number.Goals as goal

@@ -1,6 +1,6 @@
-use Rattle.script.specs.FieldsLaws.{rest_short, after, after_none, say_not, say_more, say_done, say_full}
+use Rattle.script.specs.FieldsLaws.{rest_short, after_none, say_not, say_more, say_done, say_full}
 use borrow.Author.Rules.{rules}
-use Prim.Native.Nat.{◌+◌, ◌-◌}
+use Prim.Native.Nat.{◌+◌}
 use mathlib.Core.Path.{sym, ◌∙◌}
 use native.Mathlib.Omega.{arith}
 use Rattle.script.proofs.fields.numbers.Goals as goal

@@ -1,5 +1,4 @@
 use Rattle.script.specs.FieldsLaws.{sought_here, sought_none}
-use Prim.Native.Nat.{◌-◌}
 use borrow.Author.Rules.{rules}
 use borrow.Author.Count.{below_more}
 use Rattle.script.proofs.fields.seek.Goals as goal

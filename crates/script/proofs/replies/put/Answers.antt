@@ -1,7 +1,5 @@
 use mathlib.Core.Path.{refl}
-use Prim.Native.Nat.{◌-◌}
-use lib.ListN.{length, length-set}
-use lib.Seq.{sets}
+use lib.ListN.{length-set}
 use borrow.Author.Rules.{rules}
 use Rattle.lists.specs.Stores.{sets_more}
 use Rattle.script.specs.Puts.{put_done}

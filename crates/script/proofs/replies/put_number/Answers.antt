@@ -3,7 +3,7 @@ use Rattle.script.specs.Puts.{number_short, number_done}
 use Rattle.script.proofs.replies.put_number.Goals as goal
 
 pub put-requires : goal.put-requires
-put-requires c = omega (arith, number_short c.args.n c.decimal-k.result _ c.ranges.n.fits c.decimal-k.ensures.1.0 c.decimal-k.ensures.1.1)
+put-requires c = omega (arith, number_short c.args.n c.decimal-k.result _ c.ranges.n.fits c.decimal-k.ensures.len c.decimal-k.ensures.digits)
 
 pub returns : goal.returns
-returns c = number_done c.args.n c.decimal-k.result _ c.ranges.n.fits c.decimal-k.ensures.1.0 c.decimal-k.ensures.1.1 c.put.ensures
+returns c = number_done c.args.n c.decimal-k.result _ c.ranges.n.fits c.decimal-k.ensures.len c.decimal-k.ensures.digits c.put.ensures
