@@ -8,6 +8,7 @@ ghost use Rattle.script.specs.Puts.{Wrote};
 use super::calls::make;
 use super::{LINE, LIST, OUT, Progress, Told, WORDS};
 use script::Call;
+use std::io::{Print, Read, Stderr, Stdout};
 
 // Answers that have grown to this many bytes are written out.
 const FULL: usize = 65536;
@@ -33,11 +34,11 @@ fn words_within(s: &[u32], at: usize) -> usize
 }
 
 // Writes the answers out. What a failed write loses is told at the end.
-fn flush(out: &[u8], p: Progress) -> Progress
+fn flush(to: Stdout, out: &[u8], p: Progress) -> Progress
     ensures { result.at ≡ 0 }
 {
     let n = within(out, p.at);
-    let done = io::write_all(1, &out[..n]);
+    let done = to.write_all(&out[..n]).is_ok();
     Progress {
         used: p.used,
         at: 0,
@@ -48,11 +49,11 @@ fn flush(out: &[u8], p: Progress) -> Progress
 }
 
 // Answers that have grown long are written out.
-fn make_room(out: &[u8], p: Progress) -> Progress
+fn make_room(to: Stdout, out: &[u8], p: Progress) -> Progress
     ensures { Room p.at result.at }
 {
     if FULL < p.at {
-        return flush(out, p);
+        return flush(to, out, p);
     }
     p
 }
@@ -68,10 +69,16 @@ fn put_told(out: &mut [u8], at: usize, told: Told, list: &[u32]) -> usize
 }
 
 // The answer behind those that stand there.
-fn say(out: &mut [u8; OUT], p: Progress, told: Told, list: &[u32; LIST]) -> Progress
+fn say(
+    to: Stdout,
+    out: &mut [u8; OUT],
+    p: Progress,
+    told: Told,
+    list: &[u32; LIST],
+) -> Progress
     ensures { Said out.old p.at told list.now result.at out.new }
 {
-    let q = make_room(out, p);
+    let q = make_room(to, out, p);
     let at = put_told(out, q.at, told, list);
     Progress {
         used: q.used,
@@ -83,6 +90,7 @@ fn say(out: &mut [u8; OUT], p: Progress, told: Told, list: &[u32; LIST]) -> Prog
 }
 
 fn answer(
+    to: Stdout,
     ws: &mut [u32; WORDS],
     list: &mut [u32; LIST],
     out: &mut [u8; OUT],
@@ -93,7 +101,7 @@ fn answer(
     ensures { Answers call ws.old list.old out.old p.at ws.new list.new out.new result.at }
 {
     let told = make(ws, list, call);
-    say(out, p, told, list)
+    say(to, out, p, told, list)
 }
 
 // So many bytes of a line are kept.
@@ -111,6 +119,7 @@ fn kept(p: Progress, used: usize) -> Progress
 
 // One byte: kept, or the answer to a whole line.
 fn take(
+    to: Stdout,
     ws: &mut [u32; WORDS],
     list: &mut [u32; LIST],
     line: &mut [u8; LINE],
@@ -122,7 +131,7 @@ fn take(
         return kept(p, gather(line, p.used, b));
     }
     let call = heard(line, p.used);
-    answer(ws, list, out, kept(p, 0), call)
+    answer(to, ws, list, out, kept(p, 0), call)
 }
 
 fn gather(line: &mut [u8], used: usize, b: u8) -> usize {
@@ -138,6 +147,7 @@ fn heard(line: &[u8], used: usize) -> Call
 }
 
 fn feed(
+    to: Stdout,
     ws: &mut [u32; WORDS],
     list: &mut [u32; LIST],
     line: &mut [u8; LINE],
@@ -148,7 +158,7 @@ fn feed(
     let mut now = p;
     let mut i = 0;
     while i < piece.len() {
-        now = take(ws, list, line, out, now, piece[i]);
+        now = take(to, ws, list, line, out, now, piece[i]);
         i += 1;
     }
     now
@@ -167,34 +177,43 @@ fn closed(p: Progress, unread: bool) -> Progress {
 
 // Reads once, takes what came, and writes the answers out, so that someone who types sees them.
 fn turn(
+    rt: HostRuntime,
     ws: &mut [u32; WORDS],
     list: &mut [u32; LIST],
     line: &mut [u8; LINE],
     out: &mut [u8; OUT],
     p: Progress,
 ) -> Progress {
-    let mut piece = io::buffer();
-    let got = libc::read(0, &mut piece);
-    if got <= 0 {
-        return closed(p, got < 0);
+    let mut input = rt.stdin();
+    let mut piece = [0u8; 4096];
+    let Ok(n) = input.read(&mut piece) else {
+        return closed(p, true);
+    };
+    if n == 0 {
+        return closed(p, false);
     }
-    let n = io::count(got, &piece);
-    let q = feed(ws, list, line, out, p, &piece[..n]);
-    flush(out, q)
+    let q = feed(rt.stdout(), ws, list, line, out, p, &piece[..n]);
+    flush(rt.stdout(), out, q)
+}
+
+// A line on standard error. That it can't be written is told nowhere.
+fn aside(to: Stderr, text: &[u8]) {
+    let _ = to.write_all(text);
 }
 
 // What went wrong with the input or the output, on standard error: a program has no exit status of its own.
-fn warn(p: Progress) {
+fn warn(rt: HostRuntime, p: Progress) {
     if p.unread {
-        io::write_all(2, b"replay: standard input could not be read to its end\n");
+        aside(rt.stderr(), b"replay: standard input could not be read to its end\n");
     }
     if p.unwritten {
-        io::write_all(2, b"replay: standard output did not take all answers\n");
+        aside(rt.stderr(), b"replay: standard output did not take all answers\n");
     }
 }
 
 // All of the input; its last line need not end with a line feed.
 pub fn run(
+    rt: HostRuntime,
     ws: &mut [u32; WORDS],
     list: &mut [u32; LIST],
     line: &mut [u8; LINE],
@@ -209,11 +228,11 @@ pub fn run(
     };
     let mut turns = u64::MAX;
     while turns > 0 && p.open {
-        p = turn(ws, list, line, out, p);
+        p = turn(rt, ws, list, line, out, p);
         turns -= 1;
     }
     if 0 < p.used {
-        p = take(ws, list, line, out, p, 10);
+        p = take(rt.stdout(), ws, list, line, out, p, 10);
     }
-    warn(flush(out, p));
+    warn(rt, flush(rt.stdout(), out, p));
 }
