@@ -69,13 +69,7 @@ fn put_told(out: &mut [u8], at: usize, told: Told, list: &[u32]) -> usize
 }
 
 // The answer behind those that stand there.
-fn say(
-    to: Stdout,
-    out: &mut [u8; OUT],
-    p: Progress,
-    told: Told,
-    list: &[u32; LIST],
-) -> Progress
+fn say(to: Stdout, out: &mut [u8; OUT], p: Progress, told: Told, list: &[u32; LIST]) -> Progress
     ensures { Said out.old p.at told list.now result.at out.new }
 {
     let q = make_room(to, out, p);
@@ -201,13 +195,19 @@ fn aside(to: Stderr, text: &[u8]) {
     let _ = to.write_all(text);
 }
 
-// What went wrong with the input or the output, on standard error: a program has no exit status of its own.
+// What went wrong with the input or the output, on standard error; the program ends with status 0 all the same.
 fn warn(rt: HostRuntime, p: Progress) {
     if p.unread {
-        aside(rt.stderr(), b"replay: standard input could not be read to its end\n");
+        aside(
+            rt.stderr(),
+            b"replay: standard input could not be read to its end\n",
+        );
     }
     if p.unwritten {
-        aside(rt.stderr(), b"replay: standard output did not take all answers\n");
+        aside(
+            rt.stderr(),
+            b"replay: standard output did not take all answers\n",
+        );
     }
 }
 
