@@ -14,10 +14,10 @@ pub struct Built {
 }
 
 // Leaf i has the operator 1 and the payload i.
-fn add_leaves(ws: &mut [u32; WORDS], count: u32) {
+fn add_leaves(rt: &impl Print, ws: &mut [u32; WORDS], count: u32) {
     let mut i: u32 = 0;
     while i < count {
-        calls::add(ws, Node::leaf(Op(1), i));
+        calls::add(rt, ws, Node::leaf(Op(1), i));
         i += 1;
     }
 }
@@ -43,13 +43,13 @@ fn some_node(seed: u64, ids: u32, leaves: u32) -> Node
 }
 
 // A node drawn and added: a new id, unless the node is there already.
-fn grow(ws: &mut [u32; WORDS], b: Built, leaves: u32) -> Built
+fn grow(rt: &impl Print, ws: &mut [u32; WORDS], b: Built, leaves: u32) -> Built
     requires { (1 ≤ b.ids) × (b.ids < 50000) × (1 ≤ leaves) }
     ensures { (b.ids ≤ result.ids) × (result.ids ≤ b.ids + 1) }
 {
     let ids = b.ids;
     let seed = b.seed;
-    let id = calls::add(ws, some_node(seed, ids, leaves));
+    let id = calls::add(rt, ws, some_node(seed, ids, leaves));
     if id == ids {
         return Built {
             ids: ids + 1,
@@ -63,10 +63,10 @@ fn grow(ws: &mut [u32; WORDS], b: Built, leaves: u32) -> Built
 }
 
 // Leaves, and nodes over them until there are n ids, or 2n nodes were drawn.
-pub fn nodes(ws: &mut [u32; WORDS], n: u32, leaves: u32) -> Built
+pub fn nodes(rt: &impl Print, ws: &mut [u32; WORDS], n: u32, leaves: u32) -> Built
     requires { (n ≤ 50000) × (1 ≤ leaves) × (leaves ≤ n) }
 {
-    add_leaves(ws, leaves);
+    add_leaves(rt, ws, leaves);
     let mut b = Built {
         ids: leaves,
         seed: 1,
@@ -76,14 +76,14 @@ pub fn nodes(ws: &mut [u32; WORDS], n: u32, leaves: u32) -> Built
         if n <= b.ids {
             return b;
         }
-        b = grow(ws, b, leaves);
+        b = grow(rt, ws, b, leaves);
         turns += 1;
     }
     b
 }
 
 // Unions of two leaves each; how many answered yes.
-pub fn unions(ws: &mut [u32; WORDS], seed: u64, leaves: u32, count: u32) -> u32
+pub fn unions(rt: &impl Print, ws: &mut [u32; WORDS], seed: u64, leaves: u32, count: u32) -> u32
     requires { 1 ≤ leaves }
 {
     let mut x = seed;
@@ -92,7 +92,7 @@ pub fn unions(ws: &mut [u32; WORDS], seed: u64, leaves: u32, count: u32) -> u32
     while i < count {
         let a = next(x);
         x = next(a);
-        yes += calls::union(ws, below(a, leaves), below(x, leaves));
+        yes += calls::union(rt, ws, below(a, leaves), below(x, leaves));
         i += 1;
     }
     yes

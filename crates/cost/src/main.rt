@@ -15,25 +15,26 @@ mod drawing;
 mod text;
 
 use calls::WORDS;
+use std::io;
 
 // A graph of n ids.
-fn graph(ws: &mut [u32; WORDS], n: u32)
+fn graph(rt: &impl Print, ws: &mut [u32; WORDS], n: u32) -> io::Result<()>
     requires { (5 ≤ n) × (n ≤ 50000) }
 {
     let leaves = n / 5;
     let unions = leaves + leaves;
-    calls::setup(ws, n);
-    let b = building::nodes(ws, n, leaves);
-    let yes = building::unions(ws, b.seed, leaves, unions);
-    text::built(b.ids, unions, yes);
-    let count = calls::rebuild(ws);
-    text::rebuilt(count, calls::number_of_classes(ws));
+    calls::setup(rt, ws, n);
+    let b = building::nodes(rt, ws, n, leaves);
+    let yes = building::unions(rt, ws, b.seed, leaves, unions);
+    text::built(rt, b.ids, unions, yes)?;
+    let count = calls::rebuild(rt, ws);
+    text::rebuilt(rt, count, calls::number_of_classes(rt, ws))
 }
 
-fn main() {
+fn main(rt: HostRuntime) -> io::Result<()> {
     let mut ws = [0u32; WORDS];
-    graph(&mut ws, 5000);
-    graph(&mut ws, 10000);
-    graph(&mut ws, 20000);
-    graph(&mut ws, 50000);
+    graph(&rt, &mut ws, 5000)?;
+    graph(&rt, &mut ws, 10000)?;
+    graph(&rt, &mut ws, 20000)?;
+    graph(&rt, &mut ws, 50000)
 }

@@ -14,6 +14,7 @@ ghost use Rattle.marking.specs.Marks.{Added, AddedOver, Begun, Earned, Marked, R
 
 use egraph::{AddAnswer, CountAnswer, FindAnswer, SetupAnswer, UnionAnswer};
 use language::{Node, Op};
+use std::io;
 
 // What 16 forms with 32 children in all need: 32 + 28 * 16 + 4 * 32.
 const WORDS: usize = 608;
@@ -169,32 +170,26 @@ fn mark_sheet(ws: &mut [u32; WORDS], n: usize) -> Marks
     }
 }
 
-fn say(answer: &[u8], mark: Mark) {
-    io::write_all(1, answer);
+fn say(rt: &impl Print, answer: &[u8], mark: Mark) -> io::Result<()> {
+    rt.write_all(answer)?;
     match mark {
-        Mark::MarkRight => {
-            io::write_all(1, b" is right\n");
-        }
-        Mark::MarkWrong => {
-            io::write_all(1, b" is wrong\n");
-        }
-        Mark::MarkNone => {
-            io::write_all(1, b" is not marked\n");
-        }
+        Mark::MarkRight => rt.write_all(b" is right\n"),
+        Mark::MarkWrong => rt.write_all(b" is wrong\n"),
+        Mark::MarkNone => rt.write_all(b" is not marked\n"),
     }
 }
 
-fn tell(marks: Marks) {
+fn tell(rt: &impl Print, marks: Marks) -> io::Result<()> {
     let careful = marks.careful;
     let mistaken = marks.mistaken;
-    say(b"0.50", careful);
-    say(b"0.05", mistaken);
+    say(rt, b"0.50", careful)?;
+    say(rt, b"0.05", mistaken)
 }
 
-fn main() {
+fn main(rt: HostRuntime) -> io::Result<()> {
     let mut ws = [0u32; WORDS];
-    io::write_all(1, b"With room for 16 forms:\n");
-    tell(mark_sheet(&mut ws, 16));
-    io::write_all(1, b"With room for 5 forms:\n");
-    tell(mark_sheet(&mut ws, 5));
+    rt.write_all(b"With room for 16 forms:\n")?;
+    tell(&rt, mark_sheet(&mut ws, 16))?;
+    rt.write_all(b"With room for 5 forms:\n")?;
+    tell(&rt, mark_sheet(&mut ws, 5))
 }

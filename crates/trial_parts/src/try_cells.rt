@@ -3,6 +3,7 @@ ghost use Rattle.std.specs.Prelude.{◌≡◌, ◌<◌, length};
 
 use super::words::{FROM, SIZE, TO};
 use super::{text, words};
+use std::io;
 
 const LISTS: usize = 8;
 
@@ -127,30 +128,31 @@ pub fn call(ws: &mut [u32], which: u64, seed: u64) -> bool
 }
 
 // The cell of a list that k others follow.
-fn show_cell(ws: &[u32], list: usize, k: usize)
+fn show_cell(rt: &impl Print, ws: &[u32], list: usize, k: usize) -> io::Result<()>
     requires { (length ws.now ≡ 80) × (list < 8) }
 {
     let a = FROM;
     let e = TO;
     match cells::nth(&ws[a..e], LISTS, CELLS, list, k) {
-        cells::Cell::CellAt(c) => text::number(c as u64),
-        cells::Cell::CellBroken => text::broken(),
+        cells::Cell::CellAt(c) => text::number(rt, c as u64),
+        cells::Cell::CellBroken => text::broken(rt),
     }
 }
 
 // How many cells a list has, and which, from the last on.
-fn show(ws: &[u32], list: usize)
+fn show(rt: &impl Print, ws: &[u32], list: usize) -> io::Result<()>
     requires { (length ws.now ≡ 80) × (list < 8) }
 {
     let a = FROM;
     let e = TO;
     let n = cells::len(&ws[a..e], LISTS, list);
-    text::number(n as u64);
+    text::number(rt, n as u64)?;
     let mut k = 0;
     while k < n {
-        show_cell(ws, list, k);
+        show_cell(rt, ws, list, k)?;
         k += 1;
     }
+    Ok(())
 }
 
 // List 2 is 4 7 30.
@@ -164,20 +166,20 @@ fn one_list(ws: &mut [u32])
 }
 
 // With list 3, which is 9 5, joined to it, it is 4 7 30 9 5, and list 3 has no cell.
-fn show_joined(ws: &mut [u32])
+fn show_joined(rt: &impl Print, ws: &mut [u32]) -> io::Result<()>
     requires { length ws.old ≡ 80 }
 {
     push_cell(ws, 3, 9);
     push_cell(ws, 3, 5);
     join_next(ws, 2);
-    show(ws, 2);
-    show(ws, 3);
+    show(rt, ws, 2)?;
+    show(rt, ws, 3)
 }
 
 // Without cell 7, it is 4 30 9 5.
-pub fn answers(ws: &mut [u32; SIZE]) {
+pub fn answers(rt: &impl Print, ws: &mut [u32; SIZE]) -> io::Result<()> {
     one_list(ws);
-    show_joined(ws);
+    show_joined(rt, ws)?;
     remove_cell(ws, 2, 7);
-    show(ws, 2);
+    show(rt, ws, 2)
 }

@@ -3,6 +3,7 @@ ghost use Rattle.std.specs.Prelude.{◌≡◌, length};
 
 use super::words::{FROM, SIZE, TO};
 use super::{text, words};
+use std::io;
 
 pub fn good(ws: &mut [u32])
     requires { length ws.old ≡ 80 }
@@ -30,28 +31,28 @@ fn flag(clean: bool) -> u64 {
     if clean { 1 } else { 0 }
 }
 
-fn show_counts(h: layout::Head) {
-    text::number(h.ids as u64);
-    text::number(h.places as u64);
-    text::number(h.depth as u64);
-    text::number(h.classes as u64);
+fn show_counts(rt: &impl Print, h: layout::Head) -> io::Result<()> {
+    text::number(rt, h.ids as u64)?;
+    text::number(rt, h.places as u64)?;
+    text::number(rt, h.depth as u64)?;
+    text::number(rt, h.classes as u64)
 }
 
-fn show_head(h: layout::Head) {
-    text::number(h.n as u64);
-    text::number(h.m as u64);
-    show_counts(h);
-    text::number(flag(h.clean));
+fn show_head(rt: &impl Print, h: layout::Head) -> io::Result<()> {
+    text::number(rt, h.n as u64)?;
+    text::number(rt, h.m as u64)?;
+    show_counts(rt, h)?;
+    text::number(rt, flag(h.clean))
 }
 
-fn show(ws: &[u32])
+fn show(rt: &impl Print, ws: &[u32]) -> io::Result<()>
     requires { length ws.now ≡ 80 }
 {
     let a = FROM;
     let e = TO;
     match layout::read_head(&ws[a..e]) {
-        layout::HeadRead::HeadGood(h) => show_head(h),
-        layout::HeadRead::HeadBad => text::broken(),
+        layout::HeadRead::HeadGood(h) => show_head(rt, h),
+        layout::HeadRead::HeadBad => text::broken(rt),
     }
 }
 
@@ -76,11 +77,11 @@ fn full(ws: &mut [u32])
 }
 
 // A fresh head, a full one, and one whose flag is 2.
-pub fn answers(ws: &mut [u32; SIZE]) {
+pub fn answers(rt: &impl Print, ws: &mut [u32; SIZE]) -> io::Result<()> {
     good(ws);
-    show(ws);
+    show(rt, ws)?;
     full(ws);
-    show(ws);
+    show(rt, ws)?;
     ws[FROM + 6] = 2;
-    show(ws);
+    show(rt, ws)
 }

@@ -3,6 +3,7 @@ ghost use Rattle.std.specs.Prelude.{◌≡◌, ◌<◌, ◌≤◌, length};
 
 use super::words::{FROM, SIZE, TO};
 use super::{text, words};
+use std::io;
 
 const ENTRIES: usize = 32;
 
@@ -74,25 +75,25 @@ pub fn call(ws: &mut [u32], which: u64, seed: u64) -> bool
     }
 }
 
-fn show(ws: &[u32], depth: usize)
+fn show(rt: &impl Print, ws: &[u32], depth: usize) -> io::Result<()>
     requires { (length ws.now ≡ 80) × (1 ≤ depth) × (depth ≤ 32) }
 {
     let a = FROM;
     let e = TO;
     match pending::top(&ws[a..e], depth) {
-        pending::OnTop::TopOne(id) => text::number(id as u64),
+        pending::OnTop::TopOne(id) => text::number(rt, id as u64),
         pending::OnTop::TopMany(last, count) => {
-            text::number(last as u64);
-            text::number(count as u64);
+            text::number(rt, last as u64)?;
+            text::number(rt, count as u64)
         }
     }
 }
 
 // The id 7, and on it the stretch of 3 places that ends at 5; a stretch of no place leaves the depth at 2.
-pub fn answers(ws: &mut [u32; SIZE]) {
+pub fn answers(rt: &impl Print, ws: &mut [u32; SIZE]) -> io::Result<()> {
     one(ws, 0, 7);
-    text::number(stretch(ws, 1, 5, 3) as u64);
-    text::number(stretch(ws, 2, 9, 0) as u64);
-    show(ws, 2);
-    show(ws, 1);
+    text::number(rt, stretch(ws, 1, 5, 3) as u64)?;
+    text::number(rt, stretch(ws, 2, 9, 0) as u64)?;
+    show(rt, ws, 2)?;
+    show(rt, ws, 1)
 }

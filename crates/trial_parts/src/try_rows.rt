@@ -5,6 +5,7 @@ ghost use Rattle.language.specs.Term.{places};
 use super::words::{FROM, SIZE, TO};
 use super::{nodes, text, words};
 use language::{Id, Node};
+use std::io;
 
 const IDS: usize = 8;
 
@@ -94,22 +95,22 @@ pub fn call(ws: &mut [u32], which: u64, seed: u64) -> bool
     }
 }
 
-fn show(f: rows::Fetched) {
+fn show(rt: &impl Print, f: rows::Fetched) -> io::Result<()> {
     let out = f.out;
     match out {
-        rows::Fetch::FetchDone => text::node(f.node),
-        rows::Fetch::FetchBroken => text::broken(),
+        rows::Fetch::FetchDone => text::node(rt, f.node),
+        rows::Fetch::FetchBroken => text::broken(rt),
     }
 }
 
 // A node as given, and its key.
-fn show_both(ws: &[u32], id: Id)
+fn show_both(rt: &impl Print, ws: &[u32], id: Id) -> io::Result<()>
     requires { (length ws.now ≡ 80) × (id.0 < 8) }
 {
     let a = FROM;
     let e = TO;
-    show(rows::given(&ws[a..e], IDS, PLACES, id));
-    show(rows::key(&ws[a..e], IDS, PLACES, id));
+    show(rt, rows::given(&ws[a..e], IDS, PLACES, id))?;
+    show(rt, rows::key(&ws[a..e], IDS, PLACES, id))
 }
 
 // The node of 3 is 11 21 with children 5 6, and its key has 5 5.
@@ -122,9 +123,9 @@ fn one_row(ws: &mut [u32])
 }
 
 // Another key has 4 4.
-pub fn answers(ws: &mut [u32; SIZE]) {
+pub fn answers(rt: &impl Print, ws: &mut [u32; SIZE]) -> io::Result<()> {
     one_row(ws);
-    show_both(ws, Id(3));
+    show_both(rt, ws, Id(3))?;
     rekey(ws, Id(3), nodes::two(11, 21, 4, 4));
-    show_both(ws, Id(3));
+    show_both(rt, ws, Id(3))
 }

@@ -4,6 +4,7 @@ ghost use Rattle.std.specs.Prelude.{◌≡◌, ◌<◌, ◌≤◌, length};
 use super::words::{FROM, SIZE, TO};
 use super::{nodes, text, words};
 use language::{Id, Node};
+use std::io;
 
 const IDS: usize = 8;
 
@@ -79,27 +80,27 @@ fn four_ids(ws: &mut [u32])
 }
 
 // The first three of the ids.
-fn show_ids(ws: &[u32; SIZE]) {
-    text::word(ws[WORK]);
-    text::word(ws[WORK + 1]);
-    text::word(ws[WORK + 2]);
+fn show_ids(rt: &impl Print, ws: &[u32; SIZE]) -> io::Result<()> {
+    text::word(rt, ws[WORK])?;
+    text::word(rt, ws[WORK + 1])?;
+    text::word(rt, ws[WORK + 2])
 }
 
-fn show_sort(ws: &mut [u32], k: usize)
+fn show_sort(rt: &impl Print, ws: &mut [u32], k: usize) -> io::Result<()>
     requires { (length ws.old ≡ 80) × (k ≤ 8) }
 {
     match sort(ws, k) {
-        sorting::Sorted::SortedTo(d) => text::number(d as u64),
-        sorting::Sorted::SortedBroken => text::broken(),
+        sorting::Sorted::SortedTo(d) => text::number(rt, d as u64),
+        sorting::Sorted::SortedBroken => text::broken(rt),
     }
 }
 
 // The sort leaves three ids: 1 2 0. With an 8 among them, which is no id, it refuses.
-pub fn answers(ws: &mut [u32; SIZE]) {
+pub fn answers(rt: &impl Print, ws: &mut [u32; SIZE]) -> io::Result<()> {
     three_keys(ws);
     four_ids(ws);
-    show_sort(ws, 4);
-    show_ids(ws);
+    show_sort(rt, ws, 4)?;
+    show_ids(rt, ws)?;
     set_id(ws, 1, 8);
-    show_sort(ws, 4);
+    show_sort(rt, ws, 4)
 }

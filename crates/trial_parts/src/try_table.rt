@@ -5,6 +5,7 @@ ghost use Rattle.language.specs.Term.{places};
 use super::words::{FROM, SIZE, TO};
 use super::{nodes, text, words};
 use language::{Id, Node};
+use std::io;
 
 const IDS: usize = 4;
 
@@ -124,22 +125,22 @@ pub fn call(ws: &mut [u32], which: u64, seed: u64) -> bool
     }
 }
 
-fn show(ws: &[u32], node: Node)
+fn show(rt: &impl Print, ws: &[u32], node: Node) -> io::Result<()>
     requires { (length ws.now ≡ 80) × (node.count ≤ places) }
 {
     match look(ws, node) {
-        table::Asked::AskedAt(id) => text::word(id.0),
-        table::Asked::AskedNone => text::none(),
-        table::Asked::AskedBroken => text::broken(),
+        table::Asked::AskedAt(id) => text::word(rt, id.0),
+        table::Asked::AskedNone => text::none(rt),
+        table::Asked::AskedBroken => text::broken(rt),
     }
 }
 
-fn show_all(ws: &[u32])
+fn show_all(rt: &impl Print, ws: &[u32]) -> io::Result<()>
     requires { length ws.now ≡ 80 }
 {
-    show(ws, nodes::leaf(1, 9));
-    show(ws, nodes::one(2, 0, 6));
-    show(ws, nodes::one(2, 0, 5));
+    show(rt, ws, nodes::leaf(1, 9))?;
+    show(rt, ws, nodes::one(2, 0, 6))?;
+    show(rt, ws, nodes::one(2, 0, 5))
 }
 
 // 3 has the leaf 1 9 as its key and 1 the node 2 0 with the child 6; no id has the one with the child 5.
@@ -158,9 +159,9 @@ fn without_1(ws: &mut [u32])
     take_out(ws, table::bucket(key, IDS), 1);
 }
 
-pub fn answers(ws: &mut [u32; SIZE]) {
+pub fn answers(rt: &impl Print, ws: &mut [u32; SIZE]) -> io::Result<()> {
     two_keys(ws);
-    show_all(ws);
+    show_all(rt, ws)?;
     without_1(ws);
-    show_all(ws);
+    show_all(rt, ws)
 }

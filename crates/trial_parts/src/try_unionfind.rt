@@ -3,6 +3,7 @@ ghost use Rattle.std.specs.Prelude.{◌≡◌, ◌<◌, length};
 
 use super::words::{FROM, SIZE, TO};
 use super::{text, words};
+use std::io;
 
 // Each id the child of its half.
 pub fn good(ws: &mut [u32])
@@ -89,27 +90,27 @@ fn roots(ws: &mut [u32])
     }
 }
 
-fn show(f: unionfind::Found) {
+fn show(rt: &impl Print, f: unionfind::Found) -> io::Result<()> {
     match f {
-        unionfind::Found::FoundRoot(r) => text::number(r as u64),
-        unionfind::Found::FoundLost => text::none(),
+        unionfind::Found::FoundRoot(r) => text::number(rt, r as u64),
+        unionfind::Found::FoundLost => text::none(rt),
     }
 }
 
-fn show_find(ws: &[u32], id: usize)
+fn show_find(rt: &impl Print, ws: &[u32], id: usize) -> io::Result<()>
     requires { (length ws.now ≡ 80) × (id < 10) }
 {
     let a = FROM;
     let e = TO;
-    show(unionfind::find(&ws[a..e], 10, id));
+    show(rt, unionfind::find(&ws[a..e], 10, id))
 }
 
-fn show_find_mut(ws: &mut [u32], id: usize)
+fn show_find_mut(rt: &impl Print, ws: &mut [u32], id: usize) -> io::Result<()>
     requires { (length ws.old ≡ 80) × (id < 10) }
 {
     let a = FROM;
     let e = TO;
-    show(unionfind::find_mut(&mut ws[a..e], 10, id));
+    show(rt, unionfind::find_mut(&mut ws[a..e], 10, id))
 }
 
 // 1 and 2 go under 0.
@@ -122,10 +123,10 @@ fn three_joined(ws: &mut [u32])
 }
 
 // The root of 2 is 0, and when 0 goes under 5 it is 5, by both ways to find it; that of 9 is 9.
-pub fn answers(ws: &mut [u32; SIZE]) {
+pub fn answers(rt: &impl Print, ws: &mut [u32; SIZE]) -> io::Result<()> {
     three_joined(ws);
-    show_find(ws, 2);
+    show_find(rt, ws, 2)?;
     unite(ws, 5, 0);
-    show_find_mut(ws, 2);
-    show_find(ws, 9);
+    show_find_mut(rt, ws, 2)?;
+    show_find(rt, ws, 9)
 }

@@ -30,13 +30,13 @@ returns-in-CountNot c = not_stated
 
 pub returns : goal.returns
 returns c = λ _. record {
-      one = _;
-      other = _;
-      union = _;
-      united = _;
-      union_made = c.union.ensures;
-      union_accepted = accepted c.union.result c.in_default-union.keys2;
-      rebuild = _;
-      rebuild_made = c.rebuild.ensures;
-      rebuild_accepted = rw c.in_default-rebuild.is refl;
-    }
+  one = _;
+  other = _;
+  union = _;
+  united = _;
+  union_made = c.union.ensures;
+  union_accepted = accepted c.union.result c.in_default-union.keys2;
+  rebuild = _;
+  rebuild_made = c.rebuild.ensures;
+  rebuild_accepted = rw c.in_default-rebuild.is refl;
+}
