@@ -1,4 +1,4 @@
-use Rattle.std.proofs.Common.{◌+◌, ◌-◌, ◌*◌, ◌/◌, ◌%◌, arith}
+use Rattle.std.proofs.Common.{◌+◌, ◌*◌, ◌/◌, ◌%◌, arith}
 use native.Mathlib.Nat.{mod-le}
 use Rattle.trial_parts.proofs.words.fill_small.Goals as goal
 
