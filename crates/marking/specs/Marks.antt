@@ -96,6 +96,9 @@ pub not_stated : {ws ws' : List ℕ} → false ≡ true → Stated ws ws'
 not_stated e = zero_one cc
 
 pub over_made : {x : Term} {cs : List AddAnswer} {ws : List ℕ} {r : AddAnswer} {ws' : List ℕ} → Begun ws → AddedOver ws x cs r ws' → Begun ws'
-over_made b (all_there a) = add_made b a
-over_made b (child_there a) = over_made b a
-over_made b child_not = b
+over_made {ws = ws} b a = from a
+  where
+    from : {x : Term} {cs : List AddAnswer} {r : AddAnswer} {ws' : List ℕ} → AddedOver ws x cs r ws' → Begun ws'
+    from (all_there a) = add_made b a
+    from (child_there a) = from a
+    from child_not = b

@@ -1,20 +1,16 @@
-use mathlib.Core.Logic.{◌⊎◌, inl, inr}
 use mathlib.Core.Path.{◌≡◌, refl}
-use native.Mathlib.Omega.{arith}
-use denote.Enum.Declared.{tag_of}
 use Rattle.egraph.specs.Answers.{union_says}
-use Rattle.egraph.specs.contracts.UnionAnswer.{the_type}
+use Rattle.egraph.specs.declared.Refusal.{Refusal}
 use Rattle.egraph.specs.declared.UnionAnswer.{UnionAnswer}
 use Rattle.egraph.specs.declared.UnionAnswer.TheVariants.{UnionNo, UnionNot, UnionYes}
 use Rattle.marking.specs.Marks.{not_stated}
 use Rattle.marking.proofs.state.Goals as goal
 
--- a union that was not refused, as the code tests it: by the place of its variant
-accepted : (u : UnionAnswer) → (tag_of the_type u ≡ 0) ⊎ (tag_of the_type u ≡ 1) → (union_says u).number ≡ 0
-accepted UnionYes t = refl
-accepted UnionNo t = refl
-accepted (UnionNot q) (inl e) = absurd (omega arith)
-accepted (UnionNot q) (inr e) = absurd (omega arith)
+-- a union that was not refused
+accepted : (u : UnionAnswer) → ((q : Refusal) → u ≡ UnionNot q → ⊥) → (union_says u).number ≡ 0
+accepted UnionYes n = refl
+accepted UnionNo n = refl
+accepted (UnionNot q) n = absurd (n q refl)
 
 pub returns-in_default : goal.returns-in_default
 returns-in_default c = not_stated
@@ -35,7 +31,7 @@ returns c = λ _. record {
   union = _;
   united = _;
   union_made = c.union.ensures;
-  union_accepted = accepted c.union.result c.in_default-union.keys2;
+  union_accepted = accepted c.union.result c.in_default-union.not-UnionNot;
   rebuild = _;
   rebuild_made = c.rebuild.ensures;
   rebuild_accepted = rw c.in_default-rebuild.is refl;
