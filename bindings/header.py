@@ -1,8 +1,8 @@
 #!/usr/bin/env python3
-"""header.py: holds the declarations of the C interface against each other. The code of crates/capi is what counts: each of its
+"""header.py: holds the declarations of the C interface against each other. The code of crates/capi_c is what counts: each of its
 functions must stand in include/rimodaveck.h, in bindings/rust/rimodaveck.rs and in the table of bindings/python/rimodaveck.py, with the
-same parameters, and no other may; and the library must have each. The same for the struct of an answer, the numbers of the
-refusals and the limits. Prints what does not agree, and ends with status 1 then.
+same parameters, and no other may; and the library must have each. The same for the struct of an answer (of crates/capi), the numbers of
+the refusals and the limits. Prints what does not agree, and ends with status 1 then.
 """
 import ctypes
 import glob
@@ -33,7 +33,7 @@ def squeezed(text):
 
 # name of a function: its parameters in order, as (name, type), and its result
 code = {}
-for name in glob.glob(os.path.join(TOP, "crates", "capi", "src", "*.rt")):
+for name in glob.glob(os.path.join(TOP, "crates", "capi_c", "src", "*.rt")):
     for fn, takes, gives in re.findall(r'pub extern "C" fn (\w+)\(([^)]*)\) -> (\w+)', read(name)):
         code[fn] = [tuple(p.split(": ")) for p in squeezed(takes).split(", ")], gives
 

@@ -1,6 +1,6 @@
 // The open calls for C, and for every language that can call C. Numbers go by value; words, lists and children go by pointer and length, which
-// are Rattle's slices; every answer is one struct of plain numbers. include/rimodaveck.h declares these functions, and bindings/test holds that
-// page against this crate, declaration by declaration.
+// are Rattle's slices; every answer is one struct of plain numbers. A library exports nothing: the static library crates/capi_c exports each of
+// these functions under its name and with its promise, and include/rimodaveck.h declares what that exports.
 //
 // No call has a `requires`. What a caller in C owes is what Rattle reads off a signature and C cannot show: a slice's pointer leads to as many
 // words as its length says, aligned to four bytes, and no word that one argument may write is reached by another. Each promise is the promise
