@@ -44,14 +44,16 @@ follow() {
     return "$ended"
 }
 
-# Proofs and programs go to target/: says so where nothing can be written there.
+# Proofs and programs go to the crates' folders out/, the pipe and the library for C to target/: says so where nothing can be written there.
 need_target() {
-    # shellcheck disable=SC2188
-    if mkdir -p "$top/target" 2>/dev/null && (: >"$top/target/.written") 2>/dev/null; then
-        rm -f "$top/target/.written"
-        return
-    fi
-    die 3 "cannot write to $top/target, where proofs and programs go: the checkout is read-only, belongs to another user, or its disk is full"
+    for folder in "$top/target" "$top/crates/lists/out"; do
+        # shellcheck disable=SC2188
+        if mkdir -p "$folder" 2>/dev/null && (: >"$folder/.written") 2>/dev/null; then
+            rm -f "$folder/.written"
+        else
+            die 3 "cannot write to $folder: proofs and programs go there: the checkout is read-only, belongs to another user, or its disk is full"
+        fi
+    done
 }
 
 need_rt() {
@@ -59,24 +61,47 @@ need_rt() {
         die 3 "the command rt of the Rattle toolchain is not on PATH: without it nothing can be proved or built. Add the folder bin of the toolchain to PATH"
 }
 
-# One line for each crate that was proved anew, or was not.
+# One line for each crate that was proved anew, or was not, and what rt itself has to say. built: a proved program was built, and is started.
+proving='' shown='' built=''
 show_crate() {
     case $1 in
-    *'unchanged since'*) ;;
+    'crate '*': modules '*)
+        proving=${1#crate }
+        proving=${proving%%:*}
+        ;;
+    'logic=proved '*)
+        case "$shown " in *" $proving "*) ;; *) say "$proving proved" ;; esac
+        shown="$shown $proving"
+        ;;
+    'logic='*) say "$proving NOT PROVED" ;;
+    'rt: running '*) built=1 ;;
+    # what it chose, where it begins and how to write proofs is for those who write them
+    'rt: chose '* | 'rt: rt '* | 'rt: nothing has changed '* | 'rt: '*': begins with '*) ;;
     'rt: '*) printf '%s\n' "$1" >&2 ;;
     esac
 }
 
-# prove WORDS..: runs rt with these words. It has a session of its own, so that a signal can end the provers that it starts too: they
-# are in the background, where a shell has them ignore an interrupt. What was proved is kept under target/.
+# prove CRATE WORDS..: runs rt with these words in the crate's folder. It has a session of its own, so that a signal can end the provers that
+# it starts too: they are in the background, where a shell has them ignore an interrupt. What was proved is kept in the crates' folders out/.
 prove() {
     need_rt
     need_target
+    crate=$1
+    shift
     mkfifo "$top/target/pipe.$$" || die 3 "no pipe could be made in $top/target"
     on_signals 'what was proved is kept, and the next run goes on from there'
     own=$(command -v setsid) || own=''
     # shellcheck disable=SC2086
-    (cd "$top" && exec $own "$rt" "$@") </dev/null >"$top/target/pipe.$$" 2>&1 &
+    (cd "$top/crates/$crate" && exec $own "$rt" "$@") </dev/null >"$top/target/pipe.$$" 2>&1 &
     job=$! group=${own:+-}
     follow show_crate
+}
+
+# prove_below CRATE: proves the crate and those below it, as many at a time as there are processors and memory for (3 GB each).
+prove_below() {
+    jobs=$(getconf _NPROCESSORS_ONLN 2>/dev/null) || jobs=1
+    room=$(awk '/^MemAvailable:/ { print int($2 / 3000000) }' /proc/meminfo 2>/dev/null) || room=1
+    [ "$jobs" -le "${room:-1}" ] || jobs=${room:-1}
+    [ "$jobs" -ge 1 ] || jobs=1
+    prove "$1" all check --jobs "$jobs"
 }
