@@ -6,7 +6,6 @@ use Rattle.std.proofs.Common.{◌∙◌, ap, sym, arith}
 use Rattle.std.proofs.Math.Decide.{dec_lt}
 use Rattle.holds.specs.HoldsLaws.{root_again}
 use Rattle.lists.specs.Options.{none≢some}
-use Rattle.lists.specs.Reads.{at}
 use Rattle.lists.specs.Tests.{when, when_no, when_yes, zero_one}
 use Rattle.language.specs.Struct.{node_of}
 use Rattle.language.specs.Term.{Term}

@@ -12,7 +12,7 @@ use Rattle.lists.specs.Tests.{zero_one}
 use Rattle.language.specs.Term.{Match, Term}
 use Rattle.steps.specs.Forced.{Forced, alike, asked, back, self, then}
 use Rattle.steps.specs.Graph.{Graph, canon, ids, kept, key_of, node, root, uses}
-use Rattle.steps.specs.Machine.{add, add_by, add_uncanonical, grow, link, linked}
+use Rattle.steps.specs.Machine.{add, add_by, add_uncanonical, grow, link}
 use Rattle.closure.specs.Facts.{kept_past, length_link, link_adds, link_from, link_keeps, node_new, node_old, root_more, root_out, uses_more}
 use Rattle.closure.specs.Invariant.{Good, Same, Settled, Shape, Sound, Stands, Whole, canon_stands, set_sound}
 

@@ -7,7 +7,6 @@ use Rattle.lists.specs.Reads.{get_or_map_lt}
 use Rattle.language.specs.Term.{Match, Term, same_term}
 use Rattle.steps.specs.Forced.{alike, back, then}
 use Rattle.steps.specs.Graph.{Graph, canon, kept, node, root, uses}
-use Rattle.steps.specs.Machine.{count}
 use Rattle.closure.specs.Facts.{kept_here, kept_past}
 use Rattle.std.proofs.Math.Option.{some}
 use Rattle.lists.specs.Members.{Mem}

@@ -6,7 +6,7 @@ use Rattle.lists.specs.Members.{Mem, here, mem-append-cases, mem-left, mem-nil, 
 use Rattle.lists.specs.Options.{none≢some}
 use Rattle.steps.specs.Forced.{Forced, Made, added, alike, asked, back, joined, rebuilt, self, start, then}
 use Rattle.steps.specs.Graph.{Graph, ids, kept, root, uses}
-use Rattle.steps.specs.Machine.{fresh, linked, union}
+use Rattle.steps.specs.Machine.{fresh, union}
 use Rattle.closure.specs.Invariant.{Good, Owed, Same, Settled}
 use Rattle.language.specs.Term.{Term}
 use Rattle.closure.specs.Growing.{add_good}

@@ -1,7 +1,7 @@
 -- The class lists, as document 01 asks for them: classes in ascending root id, each once; the nodes of a class strictly ascending in node order,
 -- exactly the stored nodes of its ids with root children, and no other list is so.
 -- Assumes nothing.
-use Rattle.std.specs.Prelude.{List, map, ◌≡◌, ◌<◌, ℕ}
+use Rattle.std.specs.Prelude.{map, ◌≡◌, ◌<◌, ℕ}
 use Rattle.std.proofs.Common.{sym}
 use Rattle.std.proofs.Math.Decide.{ℕ_discrete}
 use Rattle.lists.specs.Keeps.{any, filter_from, mem_filter, mem_upto, upto, upto_lt}

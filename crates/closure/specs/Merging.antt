@@ -8,7 +8,7 @@ use Rattle.lists.specs.Members.{Mem, mem-append-cases, mem-left, mem-nil, mem_re
 use Rattle.lists.specs.Relabel.{Hit, relabel, relabel_cases, relabel_hit, relabel_miss}
 use Rattle.steps.specs.Forced.{Forced, back, then}
 use Rattle.steps.specs.Graph.{Graph, ids, kept, node, root, uses}
-use Rattle.steps.specs.Machine.{linked, merge, union, union_by}
+use Rattle.steps.specs.Machine.{merge, union, union_by}
 use Rattle.closure.specs.Facts.{kids_or, root_relabel, set_from, set_keeps, uses_set_other, uses_set_same}
 use Rattle.closure.specs.Invariant.{Good, Owed, Same, Settled, Shape, Sound, Whole, wider}
 use Rattle.language.specs.Term.{Term}

@@ -8,7 +8,7 @@ use Rattle.lists.specs.Members.{Mem, here, mem-cases, there}
 use Rattle.lists.specs.Tests.{zero_one}
 use Rattle.language.specs.Term.{Term, same_term}
 use Rattle.steps.specs.Graph.{Graph, ids, kept, key_of, node, root}
-use Rattle.steps.specs.Machine.{Rebuild, close, done, linked, more, step, taken}
+use Rattle.steps.specs.Machine.{Rebuild, close, done, more, step, taken}
 use Rattle.closure.specs.Facts.{kept_here, kept_past}
 use Rattle.closure.specs.Invariant.{Good, Owed, Same, Settled, Shape, Sound, canon_stands, set_sound, stand_forced}
 use Rattle.closure.specs.Merging.{union_good}

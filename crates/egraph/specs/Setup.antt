@@ -7,7 +7,7 @@ use Rattle.std.proofs.Math.Dec.{T}
 use Rattle.std.proofs.Math.ListN.{replicate}
 use Rattle.lists.specs.Options.{none≢some}
 use Rattle.steps.specs.Graph.{kept}
-use Rattle.steps.specs.Machine.{fresh, linked}
+use Rattle.steps.specs.Machine.{fresh}
 use Rattle.cells.specs.Empty.{Cleared, cleared_pool}
 use Rattle.cells.specs.Rows.{fits}
 use Rattle.egraph.specs.Answers.{Else, no_by, pass, setup_says, stop, yes_with}

@@ -9,7 +9,7 @@ use Rattle.cells.specs.declared.Change.{Change}
 use Rattle.cells.specs.declared.Cut.{Cut}
 use Rattle.cells.specs.declared.Cut.TheVariants.{CutDone}
 use Rattle.holds.specs.Nodes.{Nodes}
-use Rattle.holds.specs.NodesPut.{Ready, Vacant, vacant_alone}
+use Rattle.holds.specs.NodesPut.{Vacant, vacant_alone}
 use Rattle.holds.specs.NodesRekey.{Rekeyed, rekey_enter, rekey_leave, rekey_other, rekey_row}
 use Rattle.rows.specs.Promise.{Keyed}
 use Rattle.rows.specs.declared.Rekey.{Rekey}

@@ -4,13 +4,11 @@
 use Rattle.std.specs.Prelude.{Bool, false, true, List, ◌≡◌, refl, ◌<◌, ◌≤◌, ℕ, length}
 use Rattle.std.proofs.Common.{⊎_elim, ap, subst, sym}
 use Rattle.lists.specs.Tests.{lt_or, zero_one}
-use Rattle.language.specs.Term.{places}
-use Rattle.steps.specs.Classes.{classes}
-use Rattle.steps.specs.Graph.{Graph, ids, root}
-use Rattle.steps.specs.Machine.{linked, marked}
+use Rattle.steps.specs.Graph.{Graph, root}
+use Rattle.steps.specs.Machine.{marked}
 use Rattle.closure.specs.Facts.{root_out}
 use Rattle.holds.specs.Holds.{Holds, HoldsAt}
-use Rattle.layout.specs.Cut.{forest, scratch, sorting}
+use Rattle.layout.specs.Cut.{forest, sorting}
 use Rattle.layout.specs.Head.{HeadIs, HeadOk, head_good}
 use Rattle.layout.specs.View.{View, hd, put, put_head, view}
 use Rattle.layout.specs.Written.{Noted, head_written, noted_is, written}

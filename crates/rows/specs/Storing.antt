@@ -2,7 +2,7 @@
 -- Assumes nothing.
 use Rattle.std.specs.Prelude.{List, [], ◌++◌, ◌∷◌, ◌⊎◌, ◌≡◌, ◌+◌, ◌<◌, ◌≤◌, ℕ, length}
 use Rattle.std.proofs.Common.{inl, inr, ◌∙◌, sym, add-zero, arith}
-use Rattle.lists.specs.Reads.{at, length_more, lt_more}
+use Rattle.lists.specs.Reads.{length_more, lt_more}
 use Rattle.lists.specs.Stores.{runs, runs_hit, runs_length, runs_miss}
 use Rattle.language.specs.Term.{Match, Term, places, term_at}
 use Rattle.rows.specs.Places.{row_keep, taken_apart, taken_append, taken_more, term_new, term_old}

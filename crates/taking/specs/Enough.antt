@@ -4,7 +4,7 @@ use Rattle.std.specs.Prelude.{true, List, [], ◌≡◌, refl, ◌*◌, ◌+◌,
 use Rattle.std.proofs.Common.{subst, mul-le-mul, mul-le-mul_left, arith}
 use Rattle.steps.specs.Classes.{number_of_classes}
 use Rattle.steps.specs.Graph.{Graph, root}
-use Rattle.steps.specs.Machine.{Rebuild, count, done, marked, more}
+use Rattle.steps.specs.Machine.{Rebuild, done, marked, more}
 use Rattle.closure.specs.Ends.{measure, rebuild_ends, step_measure}
 use Rattle.closure.specs.Invariant.{Good, Same}
 use Rattle.closure.specs.Sums.{sizes}

@@ -5,7 +5,7 @@ use Rattle.std.proofs.Common.{◌∙◌, ap, sym, arith}
 use Rattle.std.proofs.Math.Path.{subst}
 use Rattle.lists.specs.Tests.{zero_one}
 use Rattle.language.specs.declared.Id.{Id}
-use Rattle.steps.specs.Graph.{Graph, ids}
+use Rattle.steps.specs.Graph.{Graph}
 use Rattle.steps.specs.Machine.{count, popped, step}
 use Rattle.closure.specs.Invariant.{Good, Same}
 use Rattle.closure.specs.Slots.{Keyed}

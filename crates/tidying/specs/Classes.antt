@@ -4,7 +4,7 @@ use Rattle.std.specs.Prelude.{true, List, [], map, ◌≡◌, refl, ◌+◌, ◌
 use Rattle.std.proofs.Common.{⊎_elim, ◌∙◌, ap, subst, sym, arith}
 use Rattle.cells.specs.Changes.{change_apart}
 use Rattle.lists.specs.Members.{no_member}
-use Rattle.lists.specs.Reads.{at, set_all}
+use Rattle.lists.specs.Reads.{set_all}
 use Rattle.lists.specs.Tests.{lt_or, zero_one}
 use Rattle.language.specs.Sorted.{sorted}
 use Rattle.language.specs.Term.{Term, term_at}

@@ -1,5 +1,4 @@
 use mathlib.Core.Path.{◌≡◌}
-use Prim.Native.Nat.{◌-◌}
 use native.Mathlib.Omega.{arith}
 use Rattle.cells.specs.Empty.{cleared_none, cleared_more}
 use Rattle.cells.proofs.clear.Goals as goal

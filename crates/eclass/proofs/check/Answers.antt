@@ -1,6 +1,4 @@
-use Prim.Native.Nat.{◌-◌}
 use native.Mathlib.Omega.{arith}
-use borrow.Author.Tests.{not-false, not-true}
 use Rattle.eclass.specs.Checks.{all_more, all_none, all_whole, broken_class, broken_total}
 use Rattle.eclass.proofs.check.Goals as goal
 

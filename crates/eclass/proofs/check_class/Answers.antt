@@ -1,4 +1,3 @@
-use borrow.Author.Tests.{not-false, not-true}
 use native.Mathlib.Omega.{arith}
 use Rattle.layout.specs.Head.{ok_fits}
 use Rattle.eclass.specs.Checks.{check_end, check_more, check_start, check_stop}

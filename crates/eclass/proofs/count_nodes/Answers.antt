@@ -1,4 +1,3 @@
-use Prim.Native.Nat.{◌-◌}
 use native.Mathlib.Omega.{arith}
 use Rattle.layout.specs.Head.{ok_fits}
 use Rattle.layout.specs.View.{view}

@@ -1,5 +1,3 @@
-use Rattle.cells.specs.declared.Change.TheVariants.{ChangeDone}
-use Prim.Native.Nat.{◌-◌}
 use mathlib.Core.Path.{◌∙◌, refl}
 use Rattle.language.specs.Struct.{count_kids, node_of}
 use Rattle.language.proofs.Sized.{sized}

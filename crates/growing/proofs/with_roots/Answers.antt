@@ -1,6 +1,5 @@
 use Rattle.parts.specs.Bare.{bare_found}
 use mathlib.Core.Path.{ap, refl}
-use Prim.Native.Nat.{◌-◌}
 use native.Mathlib.Omega.{arith}
 use Rattle.language.proofs.Sized.{sized}
 use Rattle.language.specs.Partway.{partway_none}

@@ -1,4 +1,3 @@
-use Prim.Native.Nat.{◌-◌}
 use Rattle.layout.specs.Zero.{zeroed_none, zero_more, zero_all, zero_not}
 use native.Mathlib.Omega.{arith}
 use Rattle.layout.proofs.is_zero.Goals as goal

@@ -1,4 +1,3 @@
-use Prim.Native.Nat.{◌-◌}
 use Rattle.layout.specs.Zero.{zeroed_none, zeroed_more, zeroed_all}
 use native.Mathlib.Omega.{arith}
 use Rattle.layout.proofs.zero.Goals as goal

@@ -1,4 +1,3 @@
-use Prim.Native.Nat.{◌-◌}
 use mathlib.Core.Path.{◌∙◌, refl}
 use native.Mathlib.Omega.{arith}
 use Rattle.rechilding.specs.All.{rechilded_all, rechilded_broken, rechilded_more, rechilded_none}

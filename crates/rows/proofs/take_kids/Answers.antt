@@ -1,10 +1,8 @@
 use mathlib.Core.Path.{◌≡◌, ◌∙◌}
-use Prim.Native.Nat.{◌-◌}
 use native.Mathlib.Omega.{arith}
 use lib.ListN.{drop}
 use Rattle.language.specs.Struct.{node_of}
 use Rattle.rows.specs.Kids.{filled_none, filled_more}
-use Rattle.rows.specs.Kids.{filled}
 use Rattle.rows.proofs.take_kids.Goals as goal
 
 pub loop-i-init : goal.loop-i-init

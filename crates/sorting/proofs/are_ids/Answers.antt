@@ -1,5 +1,4 @@
 use mathlib.Core.Path.{◌≡◌}
-use Prim.Native.Nat.{◌-◌}
 use native.Mathlib.Omega.{arith}
 use Rattle.lists.specs.Tests.{says_yes, says_no}
 use Rattle.sorting.specs.Ids.{below_none, below_more}

@@ -1,7 +1,6 @@
 use mathlib.Core.Path.{◌≡◌, refl, sym, ◌∙◌}
-use Prim.Native.Nat.{◌-◌}
 use native.Mathlib.Omega.{arith}
-use Rattle.sorting.specs.Stretch.{stretch, stretch_none, only_none, only_more, copy_more}
+use Rattle.sorting.specs.Stretch.{stretch_none, only_none, only_more, copy_more}
 use Rattle.sorting.proofs.copy.Goals as goal
 
 pub loop-p-init : goal.loop-p-init

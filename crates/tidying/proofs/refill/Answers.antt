@@ -1,4 +1,3 @@
-use Prim.Native.Nat.{◌-◌}
 use mathlib.Core.Path.{◌∙◌, refl}
 use native.Mathlib.Omega.{arith}
 use Rattle.tidying.specs.Refill.{refill_broken, refill_end, refill_more, refill_start}

@@ -1,7 +1,6 @@
-use Prim.Native.Nat.{◌-◌}
 use mathlib.Core.Path.{◌≡◌}
 use native.Mathlib.Omega.{arith}
-use Rattle.spelling.specs.Pieces.{pieces, pieces_next, pieces_room, pieces_start}
+use Rattle.spelling.specs.Pieces.{pieces_next, pieces_room, pieces_start}
 use Rattle.eclass.proofs.ops.put_ops.Goals as goal
 
 pub loop-i-init : goal.loop-i-init

@@ -1,5 +1,4 @@
 use native.Mathlib.Omega.{arith}
-use borrow.Author.Tests.{not-false, not-true}
 use Rattle.egraph.specs.ClassLists.{its_classes, list_broken, list_long, list_written}
 use Rattle.egraph.proofs.class_lists.classes_open.Goals as goal
 

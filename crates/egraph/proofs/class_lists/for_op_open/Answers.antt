@@ -1,5 +1,4 @@
 use native.Mathlib.Omega.{arith}
-use borrow.Author.Tests.{not-false, not-true}
 use Rattle.egraph.specs.ClassLists.{its_ops, list_broken, list_long, list_written}
 use Rattle.egraph.proofs.class_lists.for_op_open.Goals as goal
 

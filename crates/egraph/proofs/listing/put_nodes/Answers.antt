@@ -1,5 +1,4 @@
 use mathlib.Core.Path.{◌≡◌}
-use Prim.Native.Nat.{◌-◌}
 use native.Mathlib.Omega.{arith}
 use Rattle.layout.specs.Head.{head_fits}
 use Rattle.egraph.specs.Stored.{listed_next, listed_room, listed_start}
