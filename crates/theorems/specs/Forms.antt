@@ -20,7 +20,8 @@ use Rattle.price.specs.Form.{Form, In, in_map}
 use Rattle.price.specs.Listing.{StandsAt, in_order}
 use Rattle.price.specs.Pass.{Best}
 use Rattle.price.specs.Shown.{entry_lt, in_order_at, in_order_length}
-use Rattle.price.specs.Size.{AstSize, LeastSize, ast_size, cap, size_least, size_listed}
+use Rattle.price.specs.Size.{AstSize, LeastSize, ast_size, cap}
+use Rattle.price.proofs.Size.{size_least, size_listed}
 use Rattle.theorems.specs.Course.{Run}
 use Rattle.theorems.specs.Outcomes.{One, clean_ends, id_ends, left_alone, open_both}
 use Rattle.theorems.specs.Sizes.{made_known}

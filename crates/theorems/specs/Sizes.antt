@@ -11,7 +11,8 @@ use Rattle.egraph.specs.ClassReads.{KidsKnown}
 use Rattle.extract.specs.Cost.{CostSays, cost_says, price_says}
 use Rattle.extract.specs.declared.CostAnswer.{CostAnswer}
 use Rattle.holds.specs.Holds.{Holds}
-use Rattle.price.specs.Size.{LeastSize, ast_size, cap, size_least}
+use Rattle.price.specs.Size.{LeastSize, ast_size, cap}
+use Rattle.price.proofs.Size.{size_least}
 use Rattle.theorems.specs.Course.{Run}
 use Rattle.theorems.specs.Outcomes.{One, clean_ends, id_ends, left_alone, open_both}
 
