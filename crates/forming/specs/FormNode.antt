@@ -9,7 +9,7 @@ use Rattle.lists.specs.Members.{mem_at}
 use Rattle.lists.specs.Reads.{at, map_at}
 use Rattle.language.specs.Struct.{node_of}
 use Rattle.language.specs.Term.{Term, over_kids, places, term_path, words}
-use Rattle.steps.specs.Graph.{Graph, ids, node}
+use Rattle.steps.specs.Graph.{Graph, node}
 use Rattle.egraph.specs.ClassReads.{Classed, Readable, RootNode, classed_kids, classed_node, root_node_in, root_node_not}
 use Rattle.egraph.specs.declared.NodeAnswer.{NodeAnswer}
 use Rattle.egraph.specs.declared.NodeOut.{NodeOut}

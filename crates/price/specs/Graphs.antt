@@ -6,7 +6,7 @@ use Rattle.std.proofs.Math.Option.{some}
 use Rattle.std.proofs.Math.Decide.{ℕ_discrete}
 use Rattle.lists.specs.Keeps.{length_filter, length_upto, upto}
 use Rattle.lists.specs.Members.{Mem, here, there}
-use Rattle.lists.specs.Reads.{at, lt_more}
+use Rattle.lists.specs.Reads.{lt_more}
 use Rattle.language.specs.Term.{Term}
 use Rattle.steps.specs.Classes.{class_nodes, class_roots, number_of_classes}
 use Rattle.steps.specs.Forced.{Made}

@@ -39,7 +39,6 @@ use Rattle.rows.specs.Rows
 use Rattle.theorems.specs.Course.{Run, run_setup}
 use Rattle.theorems.specs.Held.{Goes, Refused, adding_ends, rebuild_held, union_ends}
 use Rattle.theorems.specs.Outcomes.{limits_or}
-use Rattle.theorems.specs.Reached
 use Rattle.theorems.specs.Reached.{Call, Leads, Reached, after_add, after_rebuild, after_union, child_places, did_add, did_rebuild, did_union, nodes_of, rebuilt, unions_of}
 
 pub record Behind (n m : ℕ) (cs : List Call) (ws : List ℕ) (g : Graph) : Type 0 where

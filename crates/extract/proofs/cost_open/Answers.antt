@@ -1,6 +1,5 @@
 use mathlib.Core.Path.{refl}
 use Rattle.extract.specs.Cost.{cost_blocked, cost_worked, scratch_back}
-use borrow.Author.Tests.{not-false, not-true}
 use Rattle.extract.proofs.cost_open.Goals as goal
 
 pub returns-then-not-scratch_is_clear : goal.returns-then-not-scratch_is_clear

@@ -1,4 +1,3 @@
-use Prim.Native.Nat.{◌-◌}
 use native.Mathlib.Omega.{arith}
 use Rattle.spelling.specs.Pieces.{long_none}
 use Rattle.forming.specs.Form.{fine_more, fine_none, measure_broken, measure_more, measure_whole}

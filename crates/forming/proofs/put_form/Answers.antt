@@ -1,7 +1,6 @@
 use mathlib.Core.Path.{◌≡◌}
-use Prim.Native.Nat.{◌-◌}
 use native.Mathlib.Omega.{arith}
-use Rattle.spelling.specs.Pieces.{pieces, pieces_start}
+use Rattle.spelling.specs.Pieces.{pieces_start}
 use Rattle.forming.specs.Form.{put_next, put_room}
 use Rattle.forming.proofs.put_form.Goals as goal
 

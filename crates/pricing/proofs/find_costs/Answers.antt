@@ -1,4 +1,3 @@
-use Prim.Native.Nat.{◌-◌}
 use mathlib.Core.Path.{◌∙◌, refl}
 use native.Mathlib.Omega.{arith}
 use Rattle.pricing.specs.Costs.{costs_broken, costs_done, costs_long, costs_out, finding_more, finding_start}

@@ -1,4 +1,3 @@
-use Prim.Native.Nat.{◌-◌}
 use native.Mathlib.Omega.{arith}
 use Rattle.language.proofs.Sized.{sized}
 use Rattle.language.specs.Struct.{count_kids}

@@ -1,4 +1,3 @@
-use Prim.Native.Nat.{◌-◌}
 use mathlib.Core.Path.{◌∙◌, refl}
 use native.Mathlib.Omega.{arith}
 use Rattle.pricing.specs.Pass.{pass_broken, pass_done, passing_more, passing_start}

@@ -1,10 +1,6 @@
 use mathlib.Core.Path.{◌∙◌, refl}
-use Prim.Native.Nat.{◌-◌}
 use native.Mathlib.Omega.{arith}
 use Rattle.walking.specs.Walk.{walk_broken, walk_done, walking_more, walking_start}
-use Rattle.walking.proofs.finish.Reads as reads
-use Rattle.walking.proofs.finish.Lts as lts
-use Rattle.walking.proofs.step.Reads as step-reads
 use Rattle.walking.proofs.finish.Goals as goal
 
 -- src/lib.rt:165:5

@@ -2,9 +2,6 @@ use mathlib.Core.Path.{◌≡◌}
 use Prim.Native.Nat.{◌*◌, ◌+◌, ◌-◌, ◌≤◌}
 use lib.ListN.{length}
 use Rattle.walking.specs.Walk.{Walking}
-use Rattle.walking.proofs.finish.Reads as reads
-use Rattle.walking.proofs.finish.Lts as lts
-use Rattle.walking.proofs.step.Reads as step-reads
 use Rattle.walking.proofs.finish.Given as goal
 
 abbrev pub invariant-loop-at : goal.invariant-loop-at

@@ -1,5 +1,4 @@
 use mathlib.Core.Path.{◌∙◌}
-use Prim.Native.Nat.{◌-◌}
 use native.Mathlib.Omega.{arith}
 use Rattle.language.proofs.Sized.{sized}
 use Rattle.language.specs.Struct.{count_kids}

@@ -1,7 +1,6 @@
 use mathlib.Core.Path.{refl}
 use Rattle.extract.specs.Cost.{scratch_back}
 use Rattle.extract.specs.Form.{form_blocked, form_worked}
-use borrow.Author.Tests.{not-false, not-true}
 use Rattle.extract.proofs.forms.form_open.Goals as goal
 
 pub returns-then-not-scratch_is_clear : goal.returns-then-not-scratch_is_clear
