@@ -1,6 +1,6 @@
 -- The sentence that the whole rests on: behind words that a run of calls can have left stands a graph. It is the one that the definitions' steps for the accepted calls
 -- lead to, the words hold it, calls made it with the unions asked for, its nodes are those that got an id, and it is clean where a rebuild has ended and no node or union
--- has come since.
+-- has come since. Here is what each call does to it; `reached` and `behind` of proofs, Behind, are of whole runs.
 -- Assumes nothing.
 use Rattle.std.specs.Prelude.{Bool, false, true, List, [], ◌++◌, ◌∷◌, ◌≢◌, ◌⊎◌, ◌≡◌, refl, ◌+◌, ◌<◌, ◌≤◌, ℕ, length}
 use Rattle.std.proofs.Common.{inl, inr, ◌∙◌, ap, subst, sym, arith}
@@ -39,7 +39,7 @@ use Rattle.rows.specs.Rows
 use Rattle.theorems.specs.Course.{Run, run_setup}
 use Rattle.theorems.specs.Held.{Goes, Refused, adding_ends, rebuild_held, union_ends}
 use Rattle.theorems.specs.Outcomes.{limits_or}
-use Rattle.theorems.specs.Reached.{Call, Leads, Reached, after_add, after_rebuild, after_union, child_places, did_add, did_rebuild, did_union, nodes_of, rebuilt, unions_of}
+use Rattle.theorems.specs.Reached.{Call, Leads, after_add, after_rebuild, after_union, child_places, did_add, did_rebuild, did_union, nodes_of, rebuilt, unions_of}
 
 pub record Behind (n m : ℕ) (cs : List Call) (ws : List ℕ) (g : Graph) : Type 0 where
   pub run : Run (unions_of cs) ws g
@@ -114,13 +114,13 @@ pub record Ids (g : Graph) (x : Term) (id : ℕ) : Type 0 where
   pub new : kept_for g x ≡ none → id ≡ ids g
 
 module _ {us : List (ℕ × ℕ)} {g : Graph} (M : Made us g) (x : Term) where
-  uncanonical_ids : Ids g x (Machine.add_uncanonical g x).id
+  pub uncanonical_ids : Ids g x (Machine.add_uncanonical g x).id
   uncanonical_ids = record {
     old = λ i e. rw (uncanonical_old g x i e) ((made_good M).sound.memo_lt _ i e);
     new = λ e. uncanonical_new g x e;
   }
 
-  add_ids : Ids g x (Machine.add g x).id
+  pub add_ids : Ids g x (Machine.add g x).id
   add_ids = record {
     old = λ i e. rw (add_old g x i e) ((made_good M).shape.root_lt i ((made_good M).sound.memo_lt _ i e));
     new = λ e. add_new g x (made_good M).shape.rl e;
@@ -128,11 +128,11 @@ module _ {us : List (ℕ × ℕ)} {g : Graph} (M : Made us g) (x : Term) where
 
 -- ---- the graph behind the words
 
-abbrev Led : ℕ → ℕ → List Call → List ℕ → Type 0
+abbrev pub Led : ℕ → ℕ → List Call → List ℕ → Type 0
 Led n m cs ws = (g : Graph) × Leads cs g × Behind n m cs ws g
 
 -- a refused call: the words are as they were
-stays : {n m : ℕ} {cs : List Call} {ws ws' : List ℕ} → Led n m cs ws → ws' ≡ ws → Led n m cs ws'
+pub stays : {n m : ℕ} {cs : List Call} {ws ws' : List ℕ} → Led n m cs ws → ws' ≡ ws → Led n m cs ws'
 stays {n} {m} {cs} l e = subst (Led n m cs) (sym e) l
 
 -- ---- setup
@@ -141,7 +141,7 @@ stays {n} {m} {cs} l e = subst (Led n m cs) (sym e) l
 not_no : {vs : List ℕ} {k : ℕ} → ◌≡◌ {A = Answer} (yes_with vs) (no_by k) → 0 < k → ⊥
 not_no e p = let z = ap (λ (a : Answer). a.number) e in omega arith
 
-led_setup : (n m : ℕ) (ws ws' : List ℕ) → SetupSays ws n m SetupDone ws' → Led n m [] ws'
+pub led_setup : (n m : ℕ) (ws ws' : List ℕ) → SetupSays ws n m SetupDone ws' → Led n m [] ws'
 led_setup n m ws ws' s = go (limits_or n m) (lt_or (length ws) (need n m))
   where
     go : (Limits n m → ⊥) ⊎ Limits n m → (length ws < need n m) ⊎ (need n m ≤ length ws) → Led n m [] ws'
@@ -171,7 +171,7 @@ some_number NotRebuilt = omega arith
 some_number TooLong = omega arith
 some_number BrokenWords = omega arith
 
-setup_stays : (n m : ℕ) (q : Refusal) (ws ws' : List ℕ) → SetupSays ws n m (SetupNot q) ws' → ws' ≡ ws
+pub setup_stays : (n m : ℕ) (q : Refusal) (ws ws' : List ℕ) → SetupSays ws n m (SetupNot q) ws' → ws' ≡ ws
 setup_stays n m q ws ws' s = go (limits_or n m) (lt_or (length ws) (need n m))
   where
     go : (Limits n m → ⊥) ⊎ Limits n m → (length ws < need n m) ⊎ (need n m ≤ length ws) → ws' ≡ ws
@@ -195,7 +195,7 @@ module _ {n m : ℕ} {cs : List Call} {ws : List ℕ} (l : Led n m cs ws) where
           let z : i ≡ length (nodes_of cs) = I.new e ∙ ap length l.2.nodes in
           ap f (add_grows l.0 x e) ∙ p ∙ sym (when_yes (ℕ_discrete i (length (nodes_of cs))) w v z)
 
-  led_adding : (id : Graph → ℕ) (x : Node) (r : AddAnswer) (ws' : List ℕ) → Ids l.0 (node_of x) (id l.0) → AddingSays id ws x r ws' → Led n m (after_add cs (node_of x) r) ws'
+  pub led_adding : (id : Graph → ℕ) (x : Node) (r : AddAnswer) (ws' : List ℕ) → Ids l.0 (node_of x) (id l.0) → AddingSays id ws x r ws' → Led n m (after_add cs (node_of x) r) ws'
   led_adding id x r ws' I s = go r (adding_ends (unions_of cs) ws l.0 l.2.run id x r ws' s)
     where
       go : (r : AddAnswer) → Refused (add_says r) (ws' ≡ ws) ⊎ Goes ws (add_says r) (id l.0 ∷ []) ws' (unions_of cs) (Machine.add l.0 (node_of x)).graph
@@ -218,7 +218,7 @@ module _ {n m : ℕ} {cs : List Call} {ws : List ℕ} (l : Led n m cs ws) where
             },
           )
 
-  led_union : (i j : ℕ) (r : UnionAnswer) (ws' : List ℕ) → UnionSays ws i j r ws' → Led n m (after_union cs i j r) ws'
+  pub led_union : (i j : ℕ) (r : UnionAnswer) (ws' : List ℕ) → UnionSays ws i j r ws' → Led n m (after_union cs i j r) ws'
   led_union i j r ws' s = go r (union_ends (unions_of cs) ws l.0 l.2.run i j r ws' s)
     where
       Next : UnionAnswer → Type 0
@@ -249,7 +249,7 @@ module _ {n m : ℕ} {cs : List Call} {ws : List ℕ} (l : Led n m cs ws) where
       go UnionNo (inl p) = absurd (never p.number 0 p.is)
       go UnionNo (inr o) = joined UnionNo o
 
-  led_rebuild : (r : CountAnswer) (ws' : List ℕ) → RebuildSays ws r ws' → Led n m (after_rebuild cs r) ws'
+  pub led_rebuild : (r : CountAnswer) (ws' : List ℕ) → RebuildSays ws r ws' → Led n m (after_rebuild cs r) ws'
   led_rebuild r ws' s = let E = ends l.2.run.made in go r E.0 E.1 E.2 E.3 (rebuild_held (unions_of cs) ws l.0 l.2.run r ws' s E.0 E.1 E.2 E.3)
     where
       go : (r : CountAnswer) (y t : ℕ) (z : Graph) → Rebuild l.0 y t z → Goes ws (count_says r) (y ∷ []) ws' (unions_of cs) z → Led n m (after_rebuild cs r) ws'
@@ -265,19 +265,3 @@ module _ {n m : ℕ} {cs : List Call} {ws : List ℕ} (l : Led n m cs ws) where
           clean = rebuilt_clean R;
         },
       )
-
--- ---- all of it
-
-pub reached : {n m : ℕ} {cs : List Call} {ws : List ℕ} → Reached n m cs ws → (g : Graph) × Leads cs g × Behind n m cs ws g
-reached {n} {m} (Reached.setup_done ws ws' s) = led_setup n m ws ws' s
-reached (Reached.setup_not {ws = ws} R n' m' q ws' s) = stays (reached R) (setup_stays n' m' q ws ws' s)
-reached (Reached.add R x r ws' s) = let l = reached R in led_adding l (λ g. (Machine.add g (node_of x)).id) x r ws' (add_ids l.2.run.made (node_of x)) s
-reached (Reached.add_uncanonical R x r ws' s) = let l = reached R in led_adding l (λ g. (Machine.add_uncanonical g (node_of x)).id) x r ws' (uncanonical_ids l.2.run.made (node_of x)) s
-reached (Reached.union R i j r ws' s) = led_union (reached R) i j r ws' s
-reached (Reached.rebuild R r ws' s) = led_rebuild (reached R) r ws' s
-reached (Reached.find_best_cost R i r ws' s) = stays (reached R) s.same
-reached (Reached.find_best R i out r ws' out' s) = stays (reached R) s.same
-
--- of any graph that the accepted calls lead to
-pub behind : {n m : ℕ} {cs : List Call} {ws : List ℕ} {g : Graph} → Reached n m cs ws → Leads cs g → Behind n m cs ws g
-behind {n} {m} {cs} {ws} {g} R L = let l = reached R in subst (Behind n m cs ws) (leads_one cs l.0 g l.1 L) l.2

@@ -1,20 +1,17 @@
--- The three demands, in their order, of words that runs of calls can have left (`Reached`). Of such words `Leads cs g` names the graph g that the definitions' own steps
--- for the accepted calls cs lead to: there is one (`reached`), and only one (`Leads-one`). A demand is a record or two with a sentence for each call, then the theorem that
--- it holds.
+-- What the three demands say, in their order: a demand is a record or two with a sentence for each call. Here stand those of any words, and what each record is of words
+-- behind which there is a graph; the theorems of words that runs of calls can have left are in proofs, Demands.
 -- Assumes nothing.
-use Rattle.std.specs.Prelude.{Bool, true, List, [], ◌++◌, ◌∷◌, ◌↔◌, ◌≢◌, ◌⊎◌, ◌≡◌, ◌+◌, ◌<◌, ◌≤◌, ℕ, eqb, drop, length}
-use Rattle.std.proofs.Common.{inl, inr, ◌∙◌, ap, subst, sym, arith}
+use Rattle.std.specs.Prelude.{List, [], ◌++◌, ◌∷◌, ◌≢◌, ◌⊎◌, ◌≡◌, ◌+◌, ◌<◌, ◌≤◌, ℕ, eqb, drop, length}
+use Rattle.std.proofs.Common.{inl, inr, ap, arith}
 use Rattle.std.proofs.Math.Option.{Option, none, some}
 use Rattle.lists.specs.Tests.{lt_or}
 use Rattle.language.specs.Struct.{node_of}
 use Rattle.language.specs.Term.{Term, spell, words}
 use Rattle.language.specs.declared.Node.{Node}
 use Rattle.steps.specs.Classes
-use Rattle.steps.specs.Forced.{Forced}
 use Rattle.steps.specs.Graph.{Graph, ids, node, root}
 use Rattle.steps.specs.Machine
 use Rattle.steps.specs.Machine.{Rebuild}
-use Rattle.closure.specs.Closed.{again}
 use Rattle.closure.specs.Ends.{ends}
 use Rattle.adding.specs.Says.{Full, Room, kept_for}
 use Rattle.egraph.specs.Adds.{AddSays, AddingSays, LookupSays, UncanonicalSays, found_as}
@@ -40,14 +37,14 @@ use Rattle.extract.specs.declared.CostAnswer.{CostAnswer}
 use Rattle.extract.specs.declared.FormAnswer.{FormAnswer}
 use Rattle.layout.specs.Cut.{need}
 use Rattle.layout.specs.declared.Head.{Head}
-use Rattle.theorems.specs.Behind.{behind, places_are, reached}
-use Rattle.theorems.specs.Course.{Run, words_again, words_demand_3, words_sound}
+use Rattle.theorems.specs.Behind.{places_are}
+use Rattle.theorems.specs.Course.{Run}
 use Rattle.theorems.specs.Forms.{BestForm, form_one}
 use Rattle.theorems.specs.Held
 use Rattle.theorems.specs.Held.{CleanLadder, GivenLadder, Goes, IdLadder, No, Refused, Written}
 use Rattle.theorems.specs.Ladders.{Inside, adding_inside, cost_inside, form_inside, list_inside, nodes_inside, rebuild_inside, setup_inside, union_inside}
 use Rattle.theorems.specs.Outcomes
-use Rattle.theorems.specs.Reached.{Call, Leads, Reached, child_places, did_add, did_rebuild, did_union, nodes_of, rebuilt, unions_of}
+use Rattle.theorems.specs.Reached.{child_places}
 use Rattle.theorems.specs.Sizes.{Smallest, cost_one, made_known}
 
 -- ---- demand 1. Any call on any words ends and touches nothing outside them.
@@ -242,7 +239,7 @@ module _ (n m : ℕ) (us : List (ℕ × ℕ)) (ws : List ℕ) (g : Graph) (C : R
     onto (λ t. long (list g) out r out' t) (Held.list_is us ws g C list reads out r out' s),
   )
 
-  refuses : Refuses n m g ws
+  pub refuses : Refuses n m g ws
   refuses = record {
     find = λ i r s. ((fair accepted (Held.find_ends us ws g C i r s)).not_9, onto accepted (Held.find_held us ws g C i r s));
     lookup = λ x r s. ((fair (found_accepted r (Machine.lookup g (node_of x))) (Held.lookup_ends us ws g C x r s)).not_9, onto (λ t. onto (found_accepted r (Machine.lookup g (node_of x))) t) (Held.lookup_held us ws g C x r s));
@@ -285,9 +282,6 @@ module _ (n m : ℕ) (us : List (ℕ × ℕ)) (ws : List ℕ) (g : Graph) (C : R
           let e : length (spell b.nodes) ≡ length (form_of g i) = ap length b.listed in
           record { no = λ h. b.is.long (omega arith); on = λ h. accepted (b.is.fits (omega arith)).0 }
 
-pub demand_1 : {n m : ℕ} {cs : List Call} {ws : List ℕ} {g : Graph} → Reached n m cs ws → Leads cs g → Refuses n m g ws
-demand_1 {n} {m} {cs} {ws} {g} R L = let B = behind R L in refuses n m (unions_of cs) ws g B.run (B.n_is, B.m_is)
-
 -- ---- demand 2. Roots, yes-or-no answers, rebuild counts, class contents and sizes equal the Rust's on every input in the range, shown by runs against it and proved
 -- ---- against a definition of its steps. The size given for a class is the least AstSize of any finite form in it, capped at 2^64 - 1.
 
@@ -311,7 +305,7 @@ pub record Answers (g : Graph) (ws : List ℕ) : Type 0 where
   pub find_best_cost : (i : ℕ) (r : CostAnswer) (ws' : List ℕ) → CostSays ws i r ws' → Accepted (cost_says r) → Smallest g i r
   pub find_best : (i : ℕ) (out : List ℕ) (r : FormAnswer) (ws' out' : List ℕ) → FormSays ws i out r ws' out' → Accepted (form_says r) → BestForm g i out r out'
 
-answers : (us : List (ℕ × ℕ)) (ws : List ℕ) (g : Graph) → Run us ws g → Answers g ws
+pub answers : (us : List (ℕ × ℕ)) (ws : List ℕ) (g : Graph) → Run us ws g → Answers g ws
 answers us ws g C = record {
   find = λ i r s. answer (Held.find_ends us ws g C i r s);
   lookup = λ x r s. answer (Held.lookup_ends us ws g C x r s);
@@ -330,35 +324,6 @@ answers us ws g C = record {
   find_best_cost = λ i r ws' s. answer (Held.cost_ends us ws g C i r ws' s);
   find_best = λ i out r ws' out' s e. (answer (Held.form_ends us ws g C i out r ws' out' s) e).0;
 }
-
--- of the graph that the definitions' steps for the same accepted calls lead to
-pub demand_2 : {n m : ℕ} {cs : List Call} {ws : List ℕ} {g : Graph} → Reached n m cs ws → Leads cs g → Answers g ws
-demand_2 {cs = cs} {ws = ws} {g = g} R L = answers (unions_of cs) ws g (behind R L).run
-
--- ---- demand 3. From fresh, after any accepted adds, unions and rebuilds: when a rebuild has ended and no node or union has come since, two ids have one root exactly when
--- ---- the requested unions force them equal (equality's laws, and congruence of nodes alike in operator, payload and child count).
-
-pub demand_3 : {n m : ℕ} {cs : List Call} {ws : List ℕ} → Reached n m cs ws → rebuilt cs ≡ true → (i j : ℕ) → i < length (nodes_of cs) → j < length (nodes_of cs)
-    → (r r' : FindAnswer) → FindSays ws i r → FindSays ws j r' → (find_says r ≡ find_says r') ↔ Forced (nodes_of cs) (unions_of cs) i j
-demand_3 {cs = cs} {ws = ws} R e i j hi hj r r' s t =
-    let l = reached R in
-    let B = l.2 in
-    subst (λ (ns : List Term). (find_says r ≡ find_says r') ↔ Forced ns (unions_of cs) i j) B.nodes
-    (words_demand_3 (unions_of cs) ws l.0 B.run (B.clean ∙ e) i j r r' s t (omega (arith, ap length B.nodes)) (omega (arith, ap length B.nodes)))
-
--- ---- demand 3, on. Before a rebuild, one root still means forced equal.
-
-pub demand_3_before : {n m : ℕ} {cs : List Call} {ws : List ℕ} → Reached n m cs ws → (i j : ℕ) → i < length (nodes_of cs) → j < length (nodes_of cs)
-    → (r r' : FindAnswer) → FindSays ws i r → FindSays ws j r' → find_says r ≡ find_says r' → Forced (nodes_of cs) (unions_of cs) i j
-demand_3_before {cs = cs} {ws = ws} R i j hi hj r r' s t q =
-    let l = reached R in
-    let B = l.2 in
-    subst (λ (ns : List Term). Forced ns (unions_of cs) i j) B.nodes
-    (words_sound (unions_of cs) ws l.0 B.run i j r r' s t (omega (arith, ap length B.nodes)) (omega (arith, ap length B.nodes)) q)
-
--- and `clean` says which of the two it is
-pub demand_3_clean : {n m : ℕ} {cs : List Call} {ws : List ℕ} → Reached n m cs ws → (r : FlagAnswer) → CleanSays ws r → flag_says r ≡ yes_with (flag (rebuilt cs))
-demand_3_clean {cs = cs} {ws = ws} R r s = let l = reached R in Held.clean_held (unions_of cs) ws l.0 l.2.run r s ∙ ap (λ (b : Bool). yes_with (flag b)) l.2.clean
 
 -- ---- demand 3, on. Another rebuild then returns 0 and alters no answer.
 
@@ -382,7 +347,7 @@ pub record SameAnswers (ws ws' : List ℕ) : Type 0 where
   pub find_best : (i : ℕ) (out : List ℕ) (r r' : FormAnswer) (w w' o o' : List ℕ) → FormSays ws i out r w o → FormSays ws' i out r' w' o' → (form_says r ≡ form_says r') × (o ≡ o')
 
 -- words that hold one made graph under the same limits
-same_answers : (us vs : List (ℕ × ℕ)) (ws ws' : List ℕ) (g : Graph) → Run us ws g → Run vs ws' g → SameLimits ws ws' → SameAnswers ws ws'
+pub same_answers : (us vs : List (ℕ × ℕ)) (ws ws' : List ℕ) (g : Graph) → Run us ws g → Run vs ws' g → SameLimits ws ws' → SameAnswers ws ws'
 same_answers us vs ws ws' g C D L =
     let H = C.holds in
     let K = D.holds in
@@ -404,31 +369,3 @@ same_answers us vs ws ws' g C D L =
       find_best_cost = λ i r r' w w' s t. (cost_one ws ws' g H K L (made_known C.made) i r r' w w' s t).answer;
       find_best = λ i out r r' w w' o o' s t. let a = form_one ws ws' g H K L (made_known C.made) i out r r' w w' o o' s t in (a.0.answer, a.1);
     }
-
--- two runs under the same limits whose accepted calls lead to one graph, as the same calls do, are answered alike by every call
-pub one_run : {n m : ℕ} {cs ds : List Call} {ws ws' : List ℕ} (g : Graph) → Reached n m cs ws → Reached n m ds ws' → Leads cs g → Leads ds g → SameAnswers ws ws'
-one_run {cs = cs} {ds = ds} {ws = ws} {ws' = ws'} g R S L K =
-    let A = behind R L in
-    let B = behind S K in
-    same_answers (unions_of cs) (unions_of ds) ws ws' g A.run B.run (B.n_is ∙ sym A.n_is, B.m_is ∙ sym A.m_is)
-
--- the definitions' steps for the calls ds, from a graph that two runs lead to
-leads_on : (ds cs cs' : List Call) → ((g : Graph) → Leads cs g → Leads cs' g) → (h : Graph) → Leads (ds ++ cs) h → Leads (ds ++ cs') h
-leads_on [] cs cs' f h l = f h l
-leads_on (did_add x i ∷ ds) cs cs' f h l = (l.0, leads_on ds cs cs' f l.0 l.1, l.2)
-leads_on (did_union i j ∷ ds) cs cs' f h l = (l.0, leads_on ds cs cs' f l.0 l.1, l.2)
-leads_on (did_rebuild ∷ ds) cs cs' f h l = (l.0, leads_on ds cs cs' f l.0 l.1, l.2)
-
-module _ {n m : ℕ} {cs : List Call} {ws : List ℕ} (R : Reached n m cs ws) (e : rebuilt cs ≡ true) where
-  pub demand_3_again : (r : CountAnswer) (ws' : List ℕ) → RebuildSays ws r ws' → count_says r ≡ yes_with (0 ∷ [])
-  demand_3_again r ws' s = let l = reached R in (words_again (unions_of cs) ws l.0 l.2.run (l.2.clean ∙ e) r ws' s).0
-
-  -- whatever calls ds are accepted later, none at first: with or without another rebuild before them every call is answered alike
-  pub demand_3_alters_nothing : (ds : List Call) (w w' : List ℕ) → Reached n m (ds ++ cs) w → Reached n m (ds ++ (did_rebuild ∷ cs)) w' → SameAnswers w w'
-  demand_3_alters_nothing ds w w' S T = let l = reached S in one_run l.0 S T l.1 (leads_on ds cs (did_rebuild ∷ cs) once_more l.0 l.1)
-    where
-      once_more : (g : Graph) → Leads cs g → Leads (did_rebuild ∷ cs) g
-      once_more g L =
-          let B = behind R L in
-          let E = ends B.run.made in
-          (g, L, (E.0, E.1, subst (λ (z : Graph). Rebuild g E.0 E.1 z) (again B.run.made (B.clean ∙ e) E.3).2 E.3))
