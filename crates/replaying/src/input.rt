@@ -13,6 +13,9 @@ use std::io::{Print, Read, Stderr, Stdout};
 // Answers that have grown to this many bytes are written out.
 const FULL: usize = 65536;
 
+// A read takes at most this many bytes.
+const PIECE: usize = 4096;
+
 // at, or the length of s if that is less.
 fn within(s: &[u8], at: usize) -> usize
     ensures { IsPrefixLen result s.now }
@@ -179,7 +182,7 @@ fn turn(
     p: Progress,
 ) -> Progress {
     let mut input = rt.stdin();
-    let mut piece = [0u8; 4096];
+    let mut piece = [0u8; PIECE];
     let Ok(n) = input.read(&mut piece) else {
         return closed(p, true);
     };
@@ -190,21 +193,21 @@ fn turn(
     flush(rt.stdout(), out, q)
 }
 
-// A line on standard error. That it can't be written is told nowhere.
-fn aside(to: Stderr, text: &[u8]) {
+// Writes a line on standard error. That it can't be written is told nowhere.
+fn write_warning(to: Stderr, text: &[u8]) {
     let _ = to.write_all(text);
 }
 
 // What went wrong with the input or the output, on standard error; the program ends with status 0 all the same.
 fn warn(rt: HostRuntime, p: Progress) {
     if p.unread {
-        aside(
+        write_warning(
             rt.stderr(),
             b"replay: standard input could not be read to its end\n",
         );
     }
     if p.unwritten {
-        aside(
+        write_warning(
             rt.stderr(),
             b"replay: standard output did not take all answers\n",
         );
