@@ -89,7 +89,7 @@ same("the struct of the Python module", rimodaveck.Reply._fields_,
 
 # the numbers of the refusals, and the limits
 numbers = {re.sub(r"(?<!^)(?=[A-Z])", "_", name).upper(): int(k)
-           for name, k in re.findall(r"Refusal::(\w+) => (\d+)", read("crates", "egraph", "src", "lib.rt"))}
+           for name, k in re.findall(r"(\w+) = (\d+),", re.search(r"pub enum Refusal \{(.*?)\}", read("crates", "egraph", "src", "lib.rt"), flags=re.S)[1])}
 same("the refusals of the header", {name: int(k) for name, k in re.findall(r"RIMO_(\w+) = (\d+)", header)}, {"DONE": 0, **numbers})
 same("the refusals of the Python module", sorted(rimodaveck.WHY), sorted(numbers.values()))
 limits = {name: int(k) for name, k in re.findall(r"#define RIMO_(CHILDREN|IDS|PLACES) (\d+)", header)}

@@ -1,97 +1,75 @@
 -- The ways out of `probe`.
 -- Assumes nothing.
-use Rattle.std.specs.Prelude.{List, ◌≡◌, refl, ◌<◌, ◌≤◌, ℕ, length}
-use Rattle.std.proofs.Math.Option.{none, some}
-use Rattle.std.proofs.Common.{◌∙◌, ap, sym, arith}
-use Rattle.std.proofs.Math.Decide.{dec_lt}
+use Rattle.std.specs.Prelude.{None, Ok, Option, Result, Some, List, ◌≡◌, refl, ◌<◌, ◌≤◌, ℕ}
+use Rattle.broken.specs.declared.Broken.{Broken}
+use Rattle.broken.specs.Words.{broken}
+use Rattle.std.proofs.Common.{◌∙◌, ap, subst, sym, arith}
 use Rattle.holds.specs.HoldsLaws.{root_again}
 use Rattle.lists.specs.Options.{none≢some}
-use Rattle.lists.specs.Tests.{when, when_no, when_yes, zero_one}
+use Rattle.lists.specs.Tests.{zero_one}
 use Rattle.language.specs.Struct.{node_of}
-use Rattle.language.specs.Term.{Term}
 use Rattle.language.specs.declared.Id.{Id}
 use Rattle.language.specs.declared.Node.{Node}
-use Rattle.steps.specs.Graph.{Graph, canon, ids, kept}
+use Rattle.steps.specs.Graph.{Graph, canon, ids}
 use Rattle.closure.specs.Tables.{canon_live}
-use Rattle.adding.specs.Says.{Probes, seen_as}
-use Rattle.adding.specs.declared.Seen.{Seen}
-use Rattle.adding.specs.declared.Seen.TheVariants.{SeenAt, SeenBroken, SeenNone}
-use Rattle.growing.specs.Roots.{WithRoots}
-use Rattle.growing.specs.declared.Rooted.{Rooted}
-use Rattle.growing.specs.declared.Rooting.TheVariants.{RootingBroken, RootingDone}
+use Rattle.adding.specs.Says.{Probes, kept_for}
+use Rattle.adding.specs.declared.Probed.{Probed}
+use Rattle.growing.specs.Roots.{Rooted, WithRoots}
 use Rattle.holds.specs.Holds.{HoldsAt}
 use Rattle.holds.specs.NodesLaws.{Asks, nodes_ask}
 use Rattle.layout.specs.View.{view}
 use Rattle.layout.specs.declared.Head.{Head}
 use Rattle.table.specs.Asking.{Answers}
-use Rattle.table.specs.declared.Asked.{Asked}
-use Rattle.table.specs.declared.Asked.TheVariants.{AskedAt, AskedBroken, AskedNone}
 
--- an id that the table answered
-pub judge_far : (N : ℕ) (a : Asked) (x : Id) → a ≡ AskedAt x → N ≤ x.0 → SeenBroken ≡ seen_as N a
-judge_far N a x e h = sym (ap (seen_as N) e ∙ when_no (dec_lt x.0 N) (SeenAt x) SeenBroken (λ p. omega arith))
-
-pub judge_near : (N : ℕ) (a : Asked) (x : Id) → a ≡ AskedAt x → x.0 < N → SeenAt x ≡ seen_as N a
-judge_near N a x e h = sym (ap (seen_as N) e ∙ when_yes (dec_lt x.0 N) (SeenAt x) SeenBroken h)
-
-module _ (h : Head) (x : Node) (ws : List ℕ) (w : Rooted) (W : WithRoots ws h x w) where
-  pub probe_broken : w.out ≡ RootingBroken → Probes h x ws (record { out = SeenBroken; key = w.node })
-  probe_broken e = record {
-    count = W.count;
-    size = W.size;
-    low = λ q. absurd (broken_none q);
-    inside = λ i q. absurd (broken_at i q);
-    found = λ g u i H q. absurd (lost (W.sound g u H).0);
-    absent = λ g u H q. absurd (lost (W.sound g u H).0);
+module _ (h : Head) (x : Node) (ws : List ℕ) where
+  -- on words that hold no graph
+  probe_broken : ((g : Graph) (u : ℕ) → HoldsAt h u (view h.n h.m ws) g → ⊥) → Probes h x ws broken
+  probe_broken never = record {
+    key = λ p (q : broken ≡ Ok p). zero_one cc;
+    inside = λ p i (q : broken ≡ Ok p) s. zero_one cc;
+    found = λ g u i H q. absurd (never g u H);
+    absent = λ g u H q. absurd (never g u H);
   }
-    where
-      broken_none : ◌≡◌ {A = Seen} SeenBroken SeenNone → ⊥
-      broken_none q = zero_one cc
 
-      broken_at : (i : Id) → SeenBroken ≡ SeenAt i → ⊥
-      broken_at i q = zero_one cc
+  module _ (w : Result Node Broken) (W : WithRoots ws h x w) where
+    pub probe_lost : w ≡ broken → Probes h x ws broken
+    probe_lost e = probe_broken (λ g u H. let f = (W.sound g u H).1 in zero_one cc)
 
-      lost : w.out ≡ RootingDone → ⊥
-      lost q = zero_one cc
+    module _ (y : Node) (e : w ≡ Ok y) (a : Result (Option Id) Broken) (A : Answers (view h.n h.m ws).table (view h.n h.m ws).rows h.n h.m (node_of y) a) where
+      -- on words that hold a graph
+      key_is : (g : Graph) (u : ℕ) → HoldsAt h u (view h.n h.m ws) g → node_of y ≡ canon g.roots (node_of x)
+      key_is g u H = let k = W.sound g u H in let same : y ≡ k.0 = cc (e, k.1) in rw same k.2
 
-  module _ (e : w.out ≡ RootingDone) (l : length (node_of x).kids ≡ x.count) (a : Asked)
-      (A : Answers (view h.n h.m ws).table (view h.n h.m ws).rows h.n h.m (node_of w.node) a) where
-    -- what the table answered, on words that hold a graph
-    asks : (g : Graph) (u : ℕ) → HoldsAt h u (view h.n h.m ws) g → Asks (canon g.roots (node_of x)) g.memo (ids g) a
-    asks g u H =
-        let k = (W.sound g u H).1 in
-        let live = canon_live g.roots (node_of x) (root_again H.forest) in
-        nodes_ask _ _ _ _ _ _ _ H.nodes (canon g.roots (node_of x)) a live (rw k at A)
+      asks : (g : Graph) (u : ℕ) → HoldsAt h u (view h.n h.m ws) g → Asks (canon g.roots (node_of x)) g.memo (ids g) a
+      asks g u H =
+          let live = canon_live g.roots (node_of x) (root_again H.forest) in
+          nodes_ask _ _ _ _ _ _ _ H.nodes (canon g.roots (node_of x)) a live (rw (key_is g u H) at A)
 
-    seen_at : (N : ℕ) (b : Asked) (i : Id) → seen_as N b ≡ SeenAt i → (b ≡ AskedAt i) × (i.0 < N)
-    seen_at N (AskedAt y) i q = go (dec_lt y.0 N) q
-      where
-        go : (d : Dec (y.0 < N)) → when d (SeenAt y) SeenBroken ≡ SeenAt i → (AskedAt y ≡ AskedAt i) × (i.0 < N)
-        go (yes p) q = let z : y ≡ i = cc in (ap AskedAt z, rw (← z) p)
-        go (no p) q = zero_one cc
-    seen_at N AskedNone i q = zero_one cc
-    seen_at N AskedBroken i q = zero_one cc
+      pub probe_far : (i : Id) → a ≡ Ok (Some i) → h.ids ≤ i.0 → Probes h x ws broken
+      probe_far i t far = probe_broken (λ g u H. omega (arith, (asks g u H).inside i t, H.ids_are))
 
-    hit : (g : Graph) (N i : ℕ) (b : Asked) (k : Term) → N ≡ ids g → Asks k g.memo (ids g) b → kept k g.memo ≡ some i → seen_as N b ≡ SeenAt (record { 0 = i })
-    hit g N i (AskedAt y) k n S q =
-        let f = S.found y refl in
-        let z : y.0 ≡ i = cc (f, q) in
-        let d = when_yes (dec_lt y.0 N) (SeenAt y) SeenBroken (omega (arith, S.inside y refl)) in
-        d ∙ (λ j. SeenAt (record { 0 = z j }))
-    hit g N i AskedNone k n S q = absurd (none≢some (sym (S.absent refl) ∙ q))
-    hit g N i AskedBroken k n S q = absurd (S.sound refl)
+      module _ (o : Option Id) (t : a ≡ Ok o) where
+        hit : (g : Graph) (u i : ℕ) → HoldsAt h u (view h.n h.m ws) g → kept_for g (node_of x) ≡ Some i → (b : Option Id) → o ≡ b → b ≡ Some (record { 0 = i })
+        hit g u i H q (Some j) s =
+            let f = (asks g u H).found j (t ∙ ap Ok s) in
+            let z : j.0 ≡ i = cc (f, q) in
+            (λ k. Some (record { 0 = z k }))
+        hit g u i H q None s = absurd (none≢some (sym ((asks g u H).absent (t ∙ ap Ok s)) ∙ q))
 
-    miss : (g : Graph) (N : ℕ) (b : Asked) (k : Term) → Asks k g.memo (ids g) b → kept k g.memo ≡ none → seen_as N b ≡ SeenNone
-    miss g N (AskedAt y) k S q = absurd (none≢some (sym q ∙ S.found y refl))
-    miss g N AskedNone k S q = refl
-    miss g N AskedBroken k S q = absurd (S.sound refl)
+        miss : (g : Graph) (u : ℕ) → HoldsAt h u (view h.n h.m ws) g → kept_for g (node_of x) ≡ None → (b : Option Id) → o ≡ b → b ≡ None
+        miss g u H q (Some j) s = absurd (none≢some (sym q ∙ (asks g u H).found j (t ∙ ap Ok s)))
+        miss g u H q None s = refl
 
-    pub probe_asked : (s : Seen) → s ≡ seen_as h.ids a → Probes h x ws (record { out = s; key = w.node })
-    probe_asked s es = record {
-      count = W.count;
-      size = W.size;
-      low = λ q i r. W.inside e i (omega (arith, W.size));
-      inside = λ i q. (seen_at h.ids a i (sym es ∙ q)).1;
-      found = λ g u i H q. es ∙ hit g h.ids i a (canon g.roots (node_of x)) H.ids_are (asks g u H) q;
-      absent = λ g u H q. (es ∙ miss g h.ids a (canon g.roots (node_of x)) (asks g u H) q, (W.sound g u H).1);
-    }
+        probe_done : ((i : Id) → o ≡ Some i → i.0 < h.ids) → Probes h x ws (Ok (record { seen = o; key = y }))
+        probe_done near = record {
+          key = λ p q. let same : record { seen = o; key = y } ≡ p = cc in subst (λ (z : Probed). Rooted h x z.key) same (W.found y e);
+          inside = λ p i q s. let same : record { seen = o; key = y } ≡ p = cc in near i (subst (λ (z : Probed). z.seen ≡ Some i) (sym same) s);
+          found = λ g u i H q. (record { seen = o; key = y }, refl, hit g u i H q o refl);
+          absent = λ g u H q. (record { seen = o; key = y }, refl, miss g u H q o refl, key_is g u H);
+        }
+
+      pub probe_seen : (i : Id) → a ≡ Ok (Some i) → i.0 < h.ids → Probes h x ws (Ok (record { seen = Some i; key = y }))
+      probe_seen i t near = probe_done (Some i) t (λ j q. let same : i ≡ j = cc in rw (← same) near)
+
+      pub probe_none : (o : Option Id) → a ≡ Ok o → o ≡ None → Probes h x ws (Ok (record { seen = o; key = y }))
+      probe_none o t none = probe_done o t (λ j q. absurd (none≢some (sym none ∙ q)))

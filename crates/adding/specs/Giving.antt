@@ -1,104 +1,101 @@
 -- The ways out of `give`.
 -- Assumes nothing.
-use Rattle.std.specs.Prelude.{List, ◌≡◌, refl, ℕ, length}
-use Rattle.std.proofs.Common.{inl, inr, ◌∙◌, ap, arith}
-use Rattle.std.proofs.Math.Option.{Option, none, some}
+use Rattle.std.specs.Prelude.{Err, None, Ok, Option, Result, Some, List, ◌≡◌, refl, ℕ}
+use Rattle.broken.specs.declared.Broken.{Broken}
+use Rattle.broken.specs.Words.{broken}
+use Rattle.std.proofs.Common.{inl, inr, ◌∙◌, ap, subst, arith}
 use Rattle.lists.specs.Tests.{zero_one}
 use Rattle.language.specs.Struct.{node_of}
+use Rattle.language.specs.Term.{Term}
 use Rattle.language.specs.declared.Id.{Id}
 use Rattle.language.specs.declared.Node.{Node}
-use Rattle.steps.specs.Graph.{Graph}
+use Rattle.steps.specs.Graph.{Graph, canon}
 use Rattle.adding.specs.Says.{Full, Gives, Probes, Room, kept_for}
-use Rattle.adding.specs.declared.Gave.TheVariants.{GaveBroken, GaveFull, GaveNew, GaveOld}
+use Rattle.adding.specs.declared.GiveError.TheVariants.{BrokenWords, NoRoom}
+use Rattle.adding.specs.declared.Given.TheVariants.{New, Old}
 use Rattle.adding.specs.declared.Probed.{Probed}
-use Rattle.adding.specs.declared.Seen.TheVariants.{SeenAt, SeenBroken, SeenNone}
-use Rattle.holds.specs.declared.Stepped.{Stepped}
 use Rattle.growing.specs.Grow.{Addable, Grows}
 use Rattle.holds.specs.Holds.{HoldsAt}
 use Rattle.holds.specs.Inside.{inside_same}
-use Rattle.holds.specs.declared.Stepped.TheVariants.{SteppedBroken, SteppedTo}
 use Rattle.layout.specs.View.{view}
 use Rattle.layout.specs.declared.Head.{Head}
 
-module _ (h : Head) (x : Node) (ws : List ℕ) (p : Probed) (P : Probes h x ws p) (l : length (node_of x).kids ≡ x.count) where
-  -- no graph has these words
-  no_graph : (g : Graph) (o : Option ℕ) → kept_for g (node_of x) ≡ o → p.out ≡ SeenBroken → HoldsAt h h.places (view h.n h.m ws) g → ⊥
-  no_graph g (some i) q e H = let f = P.found g h.places i H q in zero_one cc
-  no_graph g none q e H = let f = (P.absent g h.places H q).0 in zero_one cc
+full_room : (h : Head) (x : Term) → Full h x → Room h x → ⊥
+full_room h x (inl a) r = omega arith
+full_room h x (inr a) r = omega arith
 
-  pub give_lost : p.out ≡ SeenBroken → Gives h (node_of x) ws GaveBroken ws
-  give_lost e = record {
-    inside = inside_same h.n h.m ws;
-    old = λ i q. zero_one cc;
-    full = λ q. zero_one cc;
-    new = λ k q. zero_one cc;
-    found = λ g i H q. absurd (no_graph g (some i) q e H);
-    shut = λ g H q f. absurd (no_graph g none q e H);
-    grown = λ g H q f. absurd (no_graph g none q e H);
-  }
+module _ (h : Head) (x : Node) (ws : List ℕ) where
+  module _ (r : Result Probed Broken) (P : Probes h x ws r) where
+    -- no graph has these words
+    no_graph : r ≡ broken → (g : Graph) → HoldsAt h h.places (view h.n h.m ws) g → (o : Option ℕ) → kept_for g (node_of x) ≡ o → ⊥
+    no_graph e g H (Some i) q = let f = (P.found g h.places i H q).1 in zero_one cc
+    no_graph e g H None q = let f = (P.absent g h.places H q).1 in zero_one cc
 
-  pub give_old : (y : Id) → p.out ≡ SeenAt y → Gives h (node_of x) ws (GaveOld y) ws
-  give_old y e = record {
-    inside = inside_same h.n h.m ws;
-    old = λ i q. let z : y ≡ i = cc in (P.inside i (e ∙ ap SeenAt z), refl);
-    full = λ q. zero_one cc;
-    new = λ k q. zero_one cc;
-    found = λ g i H q. let z : y ≡ record { 0 = i } = cc (e, P.found g h.places i H q) in ap GaveOld z;
-    shut = λ g H q f. absurd (apart (P.absent g h.places H q).0);
-    grown = λ g H q f. absurd (apart (P.absent g h.places H q).0);
-  }
-    where
-      apart : p.out ≡ SeenNone → ⊥
-      apart q = zero_one cc
-
-  module _ (e : p.out ≡ SeenNone) where
-    not_found : (g : Graph) (i : ℕ) → HoldsAt h h.places (view h.n h.m ws) g → kept_for g (node_of x) ≡ some i → ⊥
-    not_found g i H q = let f = P.found g h.places i H q in zero_one cc
-
-    pub give_full : Full h (node_of x) → Gives h (node_of x) ws GaveFull ws
-    give_full f = record {
+    pub give_lost : r ≡ broken → Gives h (node_of x) ws (Err BrokenWords) ws
+    give_lost e = record {
       inside = inside_same h.n h.m ws;
       old = λ i q. zero_one cc;
-      full = λ q. (f, refl);
+      full = λ q. zero_one cc;
       new = λ k q. zero_one cc;
-      found = λ g i H q. absurd (not_found g i H q);
-      shut = λ g H q _. refl;
-      grown = λ g H q r. absurd (full_room f r);
+      found = λ g i H q. absurd (no_graph e g H (Some i) q);
+      shut = λ g H q f. absurd (no_graph e g H None q);
+      grown = λ g H q f. absurd (no_graph e g H None q);
     }
-      where
-        full_room : Full h (node_of x) → Room h (node_of x) → ⊥
-        full_room (inl a) b = omega arith
-        full_room (inr a) b = omega arith
 
-    module _ (r : Room h (node_of x)) (ws' : List ℕ) (s : Stepped) (G : Grows h (node_of x) (node_of p.key) s ws ws') where
-      addable : (g : Graph) → HoldsAt h h.places (view h.n h.m ws) g → kept_for g (node_of x) ≡ none → Addable h (node_of x) (node_of p.key) (view h.n h.m ws) g
-      addable g H q = let k = (P.absent g h.places H q).1 in record { holds = H; key = k; new = rw k q }
+    module _ (p : Probed) (e : r ≡ Ok p) where
+      -- what was seen, on words that hold a graph
+      hit : (g : Graph) (i : ℕ) → HoldsAt h h.places (view h.n h.m ws) g → kept_for g (node_of x) ≡ Some i → p.seen ≡ Some (record { 0 = i })
+      hit g i H q =
+          let w = P.found g h.places i H q in
+          let same : w.0 ≡ p = cc (e, w.1) in
+          subst (λ (z : Probed). z.seen ≡ Some (record { 0 = i })) same w.2
 
-      full_not : Full h (node_of x) → ⊥
-      full_not (inl a) = omega arith
-      full_not (inr a) = omega arith
+      miss : (g : Graph) → HoldsAt h h.places (view h.n h.m ws) g → kept_for g (node_of x) ≡ None → (p.seen ≡ None) × (node_of p.key ≡ canon g.roots (node_of x))
+      miss g H q =
+          let w = P.absent g h.places H q in
+          let same : w.0 ≡ p = cc (e, w.1) in
+          subst (λ (z : Probed). (z.seen ≡ None) × (node_of z.key ≡ canon g.roots (node_of x))) same (w.2, w.3)
 
-      pub give_broken : s ≡ SteppedBroken → Gives h (node_of x) ws GaveBroken ws'
-      give_broken es = record {
-        inside = G.inside;
-        old = λ i q. zero_one cc;
+      pub give_old : (y : Id) → p.seen ≡ Some y → Gives h (node_of x) ws (Ok (Old y)) ws
+      give_old y s = record {
+        inside = inside_same h.n h.m ws;
+        old = λ i q. let z : y ≡ i = cc in (P.inside p i e (s ∙ ap Some z), refl);
         full = λ q. zero_one cc;
         new = λ k q. zero_one cc;
-        found = λ g i H q. absurd (not_found g i H q);
-        shut = λ g H q f. absurd (full_not f);
-        grown = λ g H q _. absurd (lost g H q);
+        found = λ g i H q. let z : y ≡ record { 0 = i } = cc (s, hit g i H q) in ap (λ (i : Id). Ok (Old i)) z;
+        shut = λ g H q f. absurd (apart (miss g H q).0);
+        grown = λ g H q f. absurd (apart (miss g H q).0);
       }
         where
-          lost : (g : Graph) → HoldsAt h h.places (view h.n h.m ws) g → kept_for g (node_of x) ≡ none → ⊥
-          lost g H q = let w = G.sound g (addable g H q) in let a = w.1 in zero_one cc
+          apart : p.seen ≡ None → ⊥
+          apart q = zero_one cc
 
-      pub give_new : (k : Head) → s ≡ SteppedTo k → Gives h (node_of x) ws (GaveNew k) ws'
-      give_new k es = record {
-        inside = G.inside;
-        old = λ i q. zero_one cc;
-        full = λ q. zero_one cc;
-        new = λ t q. let z : k ≡ t = cc in G.range t (es ∙ ap SteppedTo z);
-        found = λ g i H q. absurd (not_found g i H q);
-        shut = λ g H q f. absurd (full_not f);
-        grown = λ g H q _. let w = G.sound g (addable g H q) in let a = w.1 in let z : k ≡ w.0 = cc in (w.0, ap GaveNew z, w.2);
-      }
+      module _ (s : p.seen ≡ None) where
+        not_found : (g : Graph) (i : ℕ) → HoldsAt h h.places (view h.n h.m ws) g → kept_for g (node_of x) ≡ Some i → ⊥
+        not_found g i H q = let f = hit g i H q in zero_one cc
+
+        pub give_full : Full h (node_of x) → Gives h (node_of x) ws (Err NoRoom) ws
+        give_full f = record {
+          inside = inside_same h.n h.m ws;
+          old = λ i q. zero_one cc;
+          full = λ q. (f, refl);
+          new = λ k q. zero_one cc;
+          found = λ g i H q. absurd (not_found g i H q);
+          shut = λ g H q _. refl;
+          grown = λ g H q r. absurd (full_room h (node_of x) f r);
+        }
+
+        module _ (room : Room h (node_of x)) (ws' : List ℕ) (t : Result Head Broken) (G : Grows h (node_of x) (node_of p.key) t ws ws') where
+          addable : (g : Graph) → HoldsAt h h.places (view h.n h.m ws) g → kept_for g (node_of x) ≡ None → Addable h (node_of x) (node_of p.key) (view h.n h.m ws) g
+          addable g H q = let k = (miss g H q).1 in record { holds = H; key = k; new = rw k q }
+
+          pub give_new : (k : Head) → t ≡ Ok k → Gives h (node_of x) ws (Ok (New k)) ws'
+          give_new k b = record {
+            inside = G.inside;
+            old = λ i q. zero_one cc;
+            full = λ q. zero_one cc;
+            new = λ j q. let z : k ≡ j = cc in G.range j (b ∙ ap Ok z);
+            found = λ g i H q. absurd (not_found g i H q);
+            shut = λ g H q f. absurd (full_room h (node_of x) f room);
+            grown = λ g H q _. let w = G.sound g (addable g H q) in let z : k ≡ w.0 = cc (b, w.1) in (w.0, ap (λ (j : Head). Ok (New j)) z, w.2);
+          }

@@ -18,11 +18,3 @@ pub record AnsweredNode {A : Type 0} (o p : ℕ) (ks : List ℕ) (Promise : Node
   pub node : Node
   pub given : GivenNode o p ks node
   pub made : Answered (Promise node) says r
-
-pub answered : {A : Type 0} {Promise : A → Type 0} {says : A → Answer} (a : A) {r : Reply} → Promise a → r ≡ spoken (says a)
-    → Answered Promise says r
-answered a p e = record { answer = a; made = p; is = e }
-
-pub answered_node : {A : Type 0} {o p : ℕ} {ks : List ℕ} {Promise : Node → A → Type 0} {says : A → Answer} (x : Node) (a : A) {r : Reply}
-    → GivenNode o p ks x → Promise x a → r ≡ spoken (says a) → AnsweredNode o p ks Promise says r
-answered_node x a g p e = record { node = x; given = g; made = answered a p e }

@@ -1,39 +1,39 @@
 -- The node of an id, as C asks for it: a list of the node's words. It is refused as `id_to_node` refuses, and by 8 where the list lent is too short
 -- for the words, as document 01 has it of every list; a refusal leaves the list as it was.
 -- Assumes nothing.
-use Rattle.std.specs.Prelude.{List, [], ◌∷◌, ◌≡◌, ℕ}
-use Rattle.std.proofs.Common.{subst, sym}
+use Rattle.std.specs.Prelude.{Err, None, Ok, Option, Result, Some, List, [], ◌∷◌, ◌≡◌, ℕ}
+use Rattle.std.specs.Option.{ok_or}
 use Rattle.language.specs.declared.Node.{Node}
 use Rattle.spelling.specs.Alone.{SpellsOne}
-use Rattle.spelling.specs.declared.Spelled.{Spelled}
-use Rattle.spelling.specs.declared.Spelled.TheVariants.{SpelledLong, SpelledWords}
 use Rattle.egraph.specs.Answers.{Answer, no_by, number_of, yes_with}
 use Rattle.egraph.specs.Listing.{NodeSays}
-use Rattle.egraph.specs.declared.NodeAnswer.{NodeAnswer}
-use Rattle.egraph.specs.declared.NodeOut.{NodeOut}
-use Rattle.egraph.specs.declared.NodeOut.TheVariants.{NodeIs, NodeNot}
+use Rattle.egraph.specs.declared.Refusal.{Refusal}
+use Rattle.egraph.specs.declared.Refusal.TheVariants.{TooLong}
 use Rattle.capi.specs.Answered.{Answered}
 use Rattle.capi.specs.Spoken.{spoken}
 use Rattle.capi.specs.declared.Reply.{Reply}
 
 -- how many words of the list were written; 8 where it is too short
-abbrev pub spelled_says : Spelled → Answer
-spelled_says (SpelledWords k) = yes_with (k ∷ [])
-spelled_says SpelledLong = no_by 8
+abbrev pub spelled_says : Option ℕ → Answer
+spelled_says (Some k) = yes_with (k ∷ [])
+spelled_says None = no_by 8
 
-abbrev pub NodeTold : NodeOut → Node → List ℕ → Reply → List ℕ → Type 0
-NodeTold NodeIs x list r list' = Answered (λ (s : Spelled). SpellsOne list x s list') spelled_says r
-NodeTold (NodeNot q) x list r list' = (r ≡ spoken (no_by (number_of q))) × (list' ≡ list)
+abbrev pub NodeTold : Result Node Refusal → List ℕ → Reply → List ℕ → Type 0
+NodeTold (Ok x) list r list' = Answered (λ (s : Option ℕ). SpellsOne list x s list') spelled_says r
+NodeTold (Err q) list r list' = (r ≡ spoken (no_by (number_of q))) × (list' ≡ list)
 
 pub record AnsweredWords (ws : List ℕ) (i : ℕ) (list : List ℕ) (r : Reply) (list' : List ℕ) : Type 0 where
-  pub answer : NodeAnswer
+  pub answer : Result Node Refusal
   pub made : NodeSays ws i answer
-  pub told : NodeTold answer.out answer.node list r list'
+  pub told : NodeTold answer list r list'
 
-pub answered_words : {ws : List ℕ} {i : ℕ} {list : List ℕ} {r : Reply} {list' : List ℕ} (a : NodeAnswer) {o : NodeOut} → NodeSays ws i a
-    → a.out ≡ o → NodeTold o a.node list r list' → AnsweredWords ws i list r list'
-answered_words {list = list} {r} {list'} a p e t = record {
-  answer = a;
-  made = p;
-  told = subst (λ (o : NodeOut). NodeTold o a.node list r list') (sym e) t;
-}
+-- ---- as the code puts them together: a node in a list, of which the call is told
+
+abbrev pub NodeIn : Result Node Refusal → List ℕ → Result ℕ Refusal → List ℕ → Type 0
+NodeIn (Ok x) list r list' = (s : Option ℕ) × SpellsOne list x s list' × (r ≡ ok_or s TooLong)
+NodeIn (Err q) list r list' = (r ≡ Err q) × (list' ≡ list)
+
+pub record NodeSpelled (ws : List ℕ) (i : ℕ) (list : List ℕ) (r : Result ℕ Refusal) (list' : List ℕ) : Type 0 where
+  pub answer : Result Node Refusal
+  pub made : NodeSays ws i answer
+  pub spelled : NodeIn answer list r list'

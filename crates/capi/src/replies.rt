@@ -1,32 +1,22 @@
 // What a call answered, as the struct that C reads.
-ghost use Rattle.std.specs.Prelude.{[], ◌∷◌, ◌≡◌};
-ghost use Rattle.egraph.specs.Answers.{number_of, yes_with, no_by, setup_says, find_says, count_says, flag_says, union_says, lookup_says, add_says, list_says};
-ghost use Rattle.extract.specs.Cost.{cost_says};
-ghost use Rattle.extract.specs.Form.{form_says};
+ghost use Rattle.std.specs.Prelude.{List, [], ◌∷◌, ◌≡◌, ℕ};
+ghost use Rattle.egraph.specs.Answers.{flag, found, no_by, number_of, says, yes_with};
 ghost use Rattle.capi.specs.Spoken.{spoken};
-ghost use Rattle.capi.specs.NodeTold.{spelled_says};
 
 use super::Reply;
-use egraph::{
-    AddAnswer, CountAnswer, FindAnswer, FlagAnswer, ListAnswer, LookupAnswer, Refusal, SetupAnswer,
-    UnionAnswer,
-};
-use extract::{CostAnswer, FormAnswer};
-use spelling::Spelled;
+use egraph::Refusal;
+use extract::Form;
+use language::Id;
 
-pub fn refused(why: Refusal) -> Reply
-    ensures { result ≡ spoken (no_by (number_of why)) }
-{
-    let k = why.number();
-    Reply {
-        number: k,
-        count: 0,
-        first: 0,
-        second: 0,
-    }
+// What a call may answer with, told as its values; no answer to C has more than two.
+pub trait Values {
+    ghost values: { Self → List ℕ };
+
+    fn told(self) -> Reply
+        ensures { result ≡ spoken (yes_with (values self)) };
 }
 
-fn done() -> Reply
+fn none() -> Reply
     ensures { result ≡ spoken (yes_with []) }
 {
     Reply {
@@ -59,106 +49,86 @@ fn two(v: u64, w: u64) -> Reply
     }
 }
 
-pub fn on_setup(a: SetupAnswer) -> Reply
-    ensures { result ≡ spoken (setup_says a) }
-{
-    match a {
-        SetupAnswer::SetupDone => done(),
-        SetupAnswer::SetupNot(why) => refused(why),
+impl Values for () {
+    ghost values = { λ _. [] };
+
+    fn told(self) -> Reply {
+        none()
     }
 }
 
-pub fn on_find(a: FindAnswer) -> Reply
-    ensures { result ≡ spoken (find_says a) }
-{
-    match a {
-        FindAnswer::FindRoot(id) => one(id.0 as u64),
-        FindAnswer::FindNot(why) => refused(why),
+impl Values for u64 {
+    ghost values = { λ v. v ∷ [] };
+
+    fn told(self) -> Reply {
+        one(self)
     }
 }
 
-pub fn on_add(a: AddAnswer) -> Reply
-    ensures { result ≡ spoken (add_says a) }
-{
-    match a {
-        AddAnswer::AddId(id) => one(id.0 as u64),
-        AddAnswer::AddNot(why) => refused(why),
+impl Values for usize {
+    ghost values = { λ k. k ∷ [] };
+
+    fn told(self) -> Reply {
+        one(self as u64)
+    }
+}
+
+impl Values for bool {
+    ghost values = { flag };
+
+    fn told(self) -> Reply {
+        one(u64::from(self))
+    }
+}
+
+impl Values for Id {
+    ghost values = { λ i. i.0 ∷ [] };
+
+    fn told(self) -> Reply {
+        one(u64::from(self.0))
     }
 }
 
 // Found nothing is success without a value.
-pub fn on_lookup(a: LookupAnswer) -> Reply
-    ensures { result ≡ spoken (lookup_says a) }
-{
-    match a {
-        LookupAnswer::LookupFound(id) => one(id.0 as u64),
-        LookupAnswer::LookupNone => done(),
-        LookupAnswer::LookupNot(why) => refused(why),
+impl Values for Option<Id> {
+    ghost values = { found };
+
+    fn told(self) -> Reply {
+        match self {
+            Some(id) => id.told(),
+            None => none(),
+        }
     }
 }
 
-pub fn on_union(a: UnionAnswer) -> Reply
-    ensures { result ≡ spoken (union_says a) }
-{
-    match a {
-        UnionAnswer::UnionYes => one(1),
-        UnionAnswer::UnionNo => one(0),
-        UnionAnswer::UnionNot(why) => refused(why),
+impl Values for Form {
+    ghost values = { λ f. f.size ∷ f.words ∷ [] };
+
+    fn told(self) -> Reply {
+        two(self.size, self.words as u64)
     }
 }
 
-pub fn on_count(a: CountAnswer) -> Reply
-    ensures { result ≡ spoken (count_says a) }
-{
-    match a {
-        CountAnswer::CountIs(k) => one(k as u64),
-        CountAnswer::CountNot(why) => refused(why),
+impl From<Refusal> for Reply {
+    ghost from_gives = { λ q r. r ≡ spoken (no_by (number_of q)) };
+
+    fn from(why: Refusal) -> Reply {
+        Reply {
+            number: why.number(),
+            count: 0,
+            first: 0,
+            second: 0,
+        }
     }
 }
 
-pub fn on_flag(a: FlagAnswer) -> Reply
-    ensures { result ≡ spoken (flag_says a) }
-{
-    match a {
-        FlagAnswer::FlagYes => one(1),
-        FlagAnswer::FlagNo => one(0),
-        FlagAnswer::FlagNot(why) => refused(why),
-    }
-}
+impl<T: Values> From<Result<T, Refusal>> for Reply {
+    ghost from_gives = { λ a r. r ≡ spoken (says T.values a) };
 
-pub fn on_list(a: ListAnswer) -> Reply
-    ensures { result ≡ spoken (list_says a) }
-{
-    match a {
-        ListAnswer::ListWords(k) => one(k as u64),
-        ListAnswer::ListNot(why) => refused(why),
-    }
-}
-
-// The words of a node stand in a list, or the list is too short for them.
-pub fn on_node(s: Spelled) -> Reply
-    ensures { result ≡ spoken (spelled_says s) }
-{
-    match s {
-        Spelled::SpelledWords(k) => one(k as u64),
-        Spelled::SpelledLong => refused(Refusal::TooLong),
-    }
-}
-
-pub fn on_cost(a: CostAnswer) -> Reply
-    ensures { result ≡ spoken (cost_says a) }
-{
-    match a {
-        CostAnswer::CostIs(size) => one(size),
-        CostAnswer::CostNot(why) => refused(why),
-    }
-}
-
-pub fn on_form(a: FormAnswer) -> Reply
-    ensures { result ≡ spoken (form_says a) }
-{
-    match a {
-        FormAnswer::FormIs(size, k) => two(size, k as u64),
-        FormAnswer::FormNot(why) => refused(why),
+    fn from(answer: Result<T, Refusal>) -> Reply {
+        match answer {
+            Ok(value) => value.told(),
+            Err(why) => Reply::from(why),
+        }
     }
 }

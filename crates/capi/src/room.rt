@@ -1,24 +1,17 @@
 // The room that a graph needs, and a fresh graph in it.
 ghost use Rattle.egraph.specs.Answers.{setup_says};
 ghost use Rattle.egraph.specs.Setup.{SetupSays};
-ghost use Rattle.egraph.specs.declared.SetupAnswer.{SetupAnswer};
 ghost use Rattle.capi.specs.Answered.{Answered};
 ghost use Rattle.capi.specs.Needs.{Needs};
 
-use super::{Reply, replies};
+use super::Reply;
 
 // How many words a graph with room for n ids and m child places needs; 0 where setup refuses the limits.
 #[unsafe(no_mangle)]
 pub extern "C" fn rimo_need(n: usize, m: usize) -> usize
     ensures { Needs n m result }
 {
-    if n < 1 {
-        return 0;
-    }
-    if 65536 < n {
-        return 0;
-    }
-    if 262144 < m {
+    if !layout::limits_fit(n, m) {
         return 0;
     }
     layout::need(n, m)
@@ -27,8 +20,7 @@ pub extern "C" fn rimo_need(n: usize, m: usize) -> usize
 // A fresh graph. No value.
 #[unsafe(no_mangle)]
 pub extern "C" fn rimo_setup(ws: &mut [u32], n: usize, m: usize) -> Reply
-    ensures { Answered (λ (a : SetupAnswer). SetupSays ws.old n m a ws.new) setup_says result }
+    ensures { Answered (λ a. SetupSays ws.old n m a ws.new) setup_says result }
 {
-    let a = egraph::setup(ws, n, m);
-    replies::on_setup(a)
+    Reply::from(egraph::setup(ws, n, m))
 }

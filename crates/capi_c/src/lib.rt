@@ -10,24 +10,15 @@ ghost use Rattle.capi.specs.Answered.{Answered, AnsweredNode};
 ghost use Rattle.capi.specs.Needs.{Needs};
 ghost use Rattle.capi.specs.NodeTold.{AnsweredWords};
 ghost use Rattle.egraph.specs.Adds.{AddSays, LookupSays, UncanonicalSays};
-ghost use Rattle.egraph.specs.Answers.{add_says, count_says, find_says, flag_says, list_says, lookup_says, setup_says, union_says};
+ghost use Rattle.egraph.specs.Answers.{id_says, count_says, flag_says, lookup_says, setup_says};
 ghost use Rattle.egraph.specs.ClassLists.{ClassesSays, ForOpSays, TotalSays};
 ghost use Rattle.egraph.specs.Listing.{NodesSays};
 ghost use Rattle.egraph.specs.Reads.{CleanSays, CountSays, EmptySays, FindSays};
 ghost use Rattle.egraph.specs.Rebuilds.{RebuildSays};
 ghost use Rattle.egraph.specs.Setup.{SetupSays};
 ghost use Rattle.egraph.specs.Unions.{UnionSays};
-ghost use Rattle.egraph.specs.declared.AddAnswer.{AddAnswer};
-ghost use Rattle.egraph.specs.declared.CountAnswer.{CountAnswer};
-ghost use Rattle.egraph.specs.declared.ListAnswer.{ListAnswer};
-ghost use Rattle.egraph.specs.declared.LookupAnswer.{LookupAnswer};
-ghost use Rattle.egraph.specs.declared.SetupAnswer.{SetupAnswer};
-ghost use Rattle.egraph.specs.declared.UnionAnswer.{UnionAnswer};
-ghost use Rattle.extract.specs.Cost.{cost_says, CostSays};
+ghost use Rattle.extract.specs.Cost.{CostSays};
 ghost use Rattle.extract.specs.Form.{form_says, FormSays};
-ghost use Rattle.extract.specs.declared.CostAnswer.{CostAnswer};
-ghost use Rattle.extract.specs.declared.FormAnswer.{FormAnswer};
-ghost use Rattle.language.specs.declared.Node.{Node};
 
 use capi::Reply;
 
@@ -42,7 +33,7 @@ pub extern "C" fn rimo_need(n: usize, m: usize) -> usize
 
 #[unsafe(no_mangle)]
 pub extern "C" fn rimo_setup(ws: &mut [u32], n: usize, m: usize) -> Reply
-    ensures { Answered (λ (a : SetupAnswer). SetupSays ws.old n m a ws.new) setup_says result }
+    ensures { Answered (λ a. SetupSays ws.old n m a ws.new) setup_says result }
 {
     capi::room::rimo_setup(ws, n, m)
 }
@@ -51,30 +42,28 @@ pub extern "C" fn rimo_setup(ws: &mut [u32], n: usize, m: usize) -> Reply
 
 #[unsafe(no_mangle)]
 pub extern "C" fn rimo_add(ws: &mut [u32], op: u32, payload: u32, kids: &[u32]) -> Reply
-    ensures { AnsweredNode op payload kids.now
-        (λ (x : Node) (a : AddAnswer). AddSays ws.old x a ws.new) add_says result }
+    ensures { AnsweredNode op payload kids.now (λ x a. AddSays ws.old x a ws.new) id_says result }
 {
     capi::changes::rimo_add(ws, op, payload, kids)
 }
 
 #[unsafe(no_mangle)]
 pub extern "C" fn rimo_add_uncanonical(ws: &mut [u32], op: u32, payload: u32, kids: &[u32]) -> Reply
-    ensures { AnsweredNode op payload kids.now
-        (λ (x : Node) (a : AddAnswer). UncanonicalSays ws.old x a ws.new) add_says result }
+    ensures { AnsweredNode op payload kids.now (λ x a. UncanonicalSays ws.old x a ws.new) id_says result }
 {
     capi::changes::rimo_add_uncanonical(ws, op, payload, kids)
 }
 
 #[unsafe(no_mangle)]
 pub extern "C" fn rimo_union(ws: &mut [u32], id1: u32, id2: u32) -> Reply
-    ensures { Answered (λ (a : UnionAnswer). UnionSays ws.old id1 id2 a ws.new) union_says result }
+    ensures { Answered (λ a. UnionSays ws.old id1 id2 a ws.new) flag_says result }
 {
     capi::changes::rimo_union(ws, id1, id2)
 }
 
 #[unsafe(no_mangle)]
 pub extern "C" fn rimo_rebuild(ws: &mut [u32]) -> Reply
-    ensures { Answered (λ (a : CountAnswer). RebuildSays ws.old a ws.new) count_says result }
+    ensures { Answered (λ a. RebuildSays ws.old a ws.new) count_says result }
 {
     capi::changes::rimo_rebuild(ws)
 }
@@ -83,14 +72,14 @@ pub extern "C" fn rimo_rebuild(ws: &mut [u32]) -> Reply
 
 #[unsafe(no_mangle)]
 pub extern "C" fn rimo_lookup(ws: &[u32], op: u32, payload: u32, kids: &[u32]) -> Reply
-    ensures { AnsweredNode op payload kids.now (λ (x : Node) (a : LookupAnswer). LookupSays ws.now x a) lookup_says result }
+    ensures { AnsweredNode op payload kids.now (λ x a. LookupSays ws.now x a) lookup_says result }
 {
     capi::reads::rimo_lookup(ws, op, payload, kids)
 }
 
 #[unsafe(no_mangle)]
 pub extern "C" fn rimo_find(ws: &[u32], id: u32) -> Reply
-    ensures { Answered (FindSays ws.now id) find_says result }
+    ensures { Answered (FindSays ws.now id) id_says result }
 {
     capi::reads::rimo_find(ws, id)
 }
@@ -127,21 +116,21 @@ pub extern "C" fn rimo_total_number_of_nodes(ws: &[u32]) -> Reply
 
 #[unsafe(no_mangle)]
 pub extern "C" fn rimo_classes(ws: &[u32], list: &mut [u32]) -> Reply
-    ensures { Answered (λ (a : ListAnswer). ClassesSays ws.now list.old a list.new) list_says result }
+    ensures { Answered (λ a. ClassesSays ws.now list.old a list.new) count_says result }
 {
     capi::listing::rimo_classes(ws, list)
 }
 
 #[unsafe(no_mangle)]
 pub extern "C" fn rimo_classes_for_op(ws: &[u32], op: u32, list: &mut [u32]) -> Reply
-    ensures { Answered (λ (a : ListAnswer). ForOpSays ws.now op list.old a list.new) list_says result }
+    ensures { Answered (λ a. ForOpSays ws.now op list.old a list.new) count_says result }
 {
     capi::listing::rimo_classes_for_op(ws, op, list)
 }
 
 #[unsafe(no_mangle)]
 pub extern "C" fn rimo_nodes(ws: &[u32], list: &mut [u32]) -> Reply
-    ensures { Answered (λ (a : ListAnswer). NodesSays ws.now list.old a list.new) list_says result }
+    ensures { Answered (λ a. NodesSays ws.now list.old a list.new) count_says result }
 {
     capi::listing::rimo_nodes(ws, list)
 }
@@ -157,15 +146,14 @@ pub extern "C" fn rimo_id_to_node(ws: &[u32], id: u32, list: &mut [u32]) -> Repl
 
 #[unsafe(no_mangle)]
 pub extern "C" fn rimo_find_best_cost(ws: &mut [u32], id: u32) -> Reply
-    ensures { Answered (λ (a : CostAnswer). CostSays ws.old id a ws.new) cost_says result }
+    ensures { Answered (λ a. CostSays ws.old id a ws.new) count_says result }
 {
     capi::sizes::rimo_find_best_cost(ws, id)
 }
 
 #[unsafe(no_mangle)]
 pub extern "C" fn rimo_find_best(ws: &mut [u32], id: u32, list: &mut [u32]) -> Reply
-    ensures { Answered
-        (λ (a : FormAnswer). FormSays ws.old id list.old a ws.new list.new) form_says result }
+    ensures { Answered (λ a. FormSays ws.old id list.old a ws.new list.new) form_says result }
 {
     capi::sizes::rimo_find_best(ws, id, list)
 }

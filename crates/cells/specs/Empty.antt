@@ -5,7 +5,7 @@ use Rattle.std.proofs.Common.{⊎_elim, ◌∙◌, sym, arith, length-set, get_o
 use Rattle.std.proofs.Math.ListN.{get_or-eq_default}
 use Rattle.std.proofs.lemmas.List.{get_or-replicate, length-replicate}
 use Rattle.lists.specs.Reads.{at, set_all}
-use Rattle.lists.specs.Tests.{eq_or, lt_or}
+use Rattle.lists.specs.Tests.{lt_or}
 use Rattle.cells.specs.Pool.{Pool, Row, empty_l, row}
 use Rattle.cells.specs.Rows.{row_frame, row_none}
 
@@ -85,22 +85,6 @@ pub record Cleared (ws ws' : List ℕ) (n i : ℕ) : Type 0 where
   pub zeros : (a : ℕ) → a < i → at ws' (a + n + n) ≡ 0
   pub before : (j : ℕ) → j < n + n → at ws' j ≡ at ws j
   pub after : (j : ℕ) → n + n + i ≤ j → at ws' j ≡ at ws j
-
-pub cleared_none : (ws : List ℕ) (n : ℕ) → Cleared ws ws n 0
-cleared_none ws n = record { kept = refl; zeros = λ a h. absurd (omega arith); before = λ j h. refl; after = λ j h. refl }
-
-pub cleared_more : (ws ws' : List ℕ) (n i : ℕ) → n + n + i < length ws → Cleared ws ws' n i → Cleared ws (set ws' (n + n + i) 0) n (i + 1)
-cleared_more ws ws' n i h c = record {
-  kept = length-set ws' (n + n + i) 0 ∙ c.kept;
-  zeros = λ a k. ⊎_elim
-      (λ (e : a ≡ i).
-      let f : a + n + n ≡ n + n + i = omega arith in
-      rw f (get_or-set_same ws' (n + n + i) 0 0 (omega (arith, c.kept))))
-      (λ (e : a ≢ i). get_or-set_other ws' (n + n + i) (a + n + n) 0 0 (omega arith) ∙ c.zeros a (omega arith))
-      (eq_or a i);
-  before = λ j k. get_or-set_other ws' (n + n + i) j 0 0 (omega arith) ∙ c.before j k;
-  after = λ j k. get_or-set_other ws' (n + n + i) j 0 0 (omega arith) ∙ c.after j (omega arith);
-}
 
 -- then the words hold n empty lists, whatever they were
 pub cleared_pool : (ws ws' : List ℕ) (n m : ℕ) → Cleared ws ws' n n → Pool ws' n m (replicate n [])

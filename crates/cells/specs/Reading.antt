@@ -1,6 +1,8 @@
 -- What the functions that only read promise: `len`, `last` and `link` a word, `nth` the cell that k others follow.
 -- Assumes nothing.
-use Rattle.std.specs.Prelude.{List, ◌≡◌, refl, ◌+◌, ◌<◌, ◌^◌, ◌≤◌, suc, ℕ, length}
+use Rattle.std.specs.Prelude.{Ok, Result, List, ◌≡◌, refl, ◌+◌, ◌<◌, ◌^◌, ◌≤◌, suc, ℕ, length}
+use Rattle.broken.specs.declared.Broken.{Broken}
+use Rattle.broken.specs.Words.{broken}
 use Rattle.std.proofs.Common.{◌∙◌, ap, sym, arith}
 use Rattle.lists.specs.Reads.{at}
 use Rattle.lists.specs.Tests.{zero_one}
@@ -8,8 +10,6 @@ use Rattle.cells.specs.Pool.{Pool, row}
 use Rattle.cells.specs.Rows.{fits}
 use Rattle.cells.specs.Stretch.{part_list}
 use Rattle.cells.specs.Trail.{trail, trail_inside, trail_part}
-use Rattle.cells.specs.declared.Cell.{Cell}
-use Rattle.cells.specs.declared.Cell.TheVariants.{CellAt, CellBroken}
 
 -- r is the word at i
 pub record Word (ws : List ℕ) (i r : ℕ) : Type 0 where
@@ -18,29 +18,19 @@ pub record Word (ws : List ℕ) (i r : ℕ) : Type 0 where
 
 -- ---- the cell of list a that k others follow
 
-pub record Reached (ws : List ℕ) (n m a k : ℕ) (r : Cell) : Type 0 where
-  pub past : at ws (a + n + n) ≤ k → r ≡ CellBroken
-  pub far : m ≤ k → r ≡ CellBroken
-  pub stray : m ≤ at ws a → r ≡ CellBroken
+pub record Reached (ws : List ℕ) (n m a k : ℕ) (r : Result ℕ Broken) : Type 0 where
+  pub past : at ws (a + n + n) ≤ k → r ≡ broken
+  pub far : m ≤ k → r ≡ broken
+  pub stray : m ≤ at ws a → r ≡ broken
   pub exact : k < at ws (a + n + n) → k < m → at ws a < m → r ≡ trail ws n m k (at ws a)
-  pub inside : (x : ℕ) → r ≡ CellAt x → x < m
-  pub law : (L : List (List ℕ)) (i : ℕ) → Pool ws n m L → suc (i + k) ≡ length (row L a) → r ≡ CellAt (at (row L a) i)
+  pub inside : (x : ℕ) → r ≡ Ok x → x < m
+  pub law : (L : List (List ℕ)) (i : ℕ) → Pool ws n m L → suc (i + k) ≡ length (row L a) → r ≡ Ok (at (row L a) i)
 
 module _ (ws : List ℕ) (n m a k : ℕ) (ha : a < n) where
-  nowhere : (x : ℕ) → CellBroken ≡ CellAt x → x < m
+  nowhere : (x : ℕ) → broken ≡ Ok x → x < m
   nowhere x e = zero_one cc
 
-  pub reach_past : at ws (a + n + n) ≤ k → Reached ws n m a k CellBroken
-  reach_past h = record {
-    past = λ _. refl;
-    far = λ _. refl;
-    stray = λ _. refl;
-    exact = λ u v w. absurd (omega arith);
-    inside = nowhere;
-    law = λ L i p e. absurd (omega (arith, (p.rows a ha).size));
-  }
-
-  pub reach_far : m ≤ k → Reached ws n m a k CellBroken
+  pub reach_far : m ≤ k → Reached ws n m a k broken
   reach_far h = record {
     past = λ _. refl;
     far = λ _. refl;
@@ -50,7 +40,7 @@ module _ (ws : List ℕ) (n m a k : ℕ) (ha : a < n) where
     law = λ L i p e. absurd (omega (arith, fits ws n m L p a ha));
   }
 
-  pub reach_stray : k < at ws (a + n + n) → m ≤ at ws a → Reached ws n m a k CellBroken
+  pub reach_stray : k < at ws (a + n + n) → m ≤ at ws a → Reached ws n m a k broken
   reach_stray u h = record {
     past = λ _. refl;
     far = λ _. refl;
@@ -60,7 +50,7 @@ module _ (ws : List ℕ) (n m a k : ℕ) (ha : a < n) where
     law = λ L i p e. absurd (omega (arith, (p.rows a ha).final (i + k) e, (p.rows a ha).low (i + k) (omega arith)));
   }
 
-  pub reach : (r : Cell) → k < at ws (a + n + n) → k < m → at ws a < m → r ≡ trail ws n m k (at ws a) → Reached ws n m a k r
+  pub reach : (r : Result ℕ Broken) → k < at ws (a + n + n) → k < m → at ws a < m → r ≡ trail ws n m k (at ws a) → Reached ws n m a k r
   reach r u t h f = record {
     past = λ v. absurd (omega arith);
     far = λ v. absurd (omega arith);

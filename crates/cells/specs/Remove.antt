@@ -101,13 +101,6 @@ pub record Named (ws : List ℕ) (n m a left spot after : ℕ) : Type 0 where
   pub mid : (L : List (List ℕ)) → Pool ws n m L → left < length (row L a) → (spot ≡ n + n + n + at (row L a) left) × (after ≡ at (row L a) left)
 
 module _ (ws : List ℕ) (n m a : ℕ) (ha : a < n) where
-  pub named_start : Named ws n m a (at ws (a + n + n)) a 0
-  named_start = record {
-    short = λ L p. omega (arith, (p.rows a ha).size);
-    far = λ L p e. refl;
-    mid = λ L p h. absurd (omega (arith, (p.rows a ha).size));
-  }
-
   module _ (left spot after : ℕ) (s : Named ws n m a left spot after) where
     pub named_cursor : Cursor ws n m a left (at ws spot)
     named_cursor = record {

@@ -18,40 +18,14 @@ ghost use Rattle.cells.specs.Empty.{Emptied, Cleared};
 ghost use Rattle.cells.specs.Reading.{Word, Reached};
 ghost use Rattle.cells.specs.Cuts.{Seen, Removed};
 
-// What a change answers: done, or words that no calls could have produced.
-#[derive(Clone, Copy)]
-pub enum Change {
-    ChangeDone,
-    ChangeBroken,
-}
-
-// A cell, or words that lead to none.
-#[derive(Clone, Copy)]
-pub enum Cell {
-    CellAt(usize),
-    CellBroken,
-}
-
-// A cell is taken out of its list, is not in it, or the words are no pool's.
-#[derive(Clone, Copy)]
-pub enum Cut {
-    CutDone,
-    CutAbsent,
-    CutBroken,
-}
+use broken::Broken;
 
 // Where a cell stands in a list: how many cells are before it, the index of the word that names it, and the cell that follows it, if one does.
 #[derive(Clone, Copy)]
-enum Spot {
-    SpotAt(usize, usize, usize),
-    SpotAbsent,
-    SpotBroken,
-}
-
-fn wide(x: u32) -> usize
-    ensures { (result ≡ x) × (result < 2 ^ 32) }
-{
-    x as usize
+struct Spot {
+    before: usize,
+    word: usize,
+    after: usize,
 }
 
 // The first of two words where a count is 0, else the second.
@@ -62,7 +36,13 @@ fn choose(n: u32, x: u32, y: u32) -> u32
 }
 
 // Appends a cell, which is in no list, to a list.
-pub fn push(ws: &mut [u32], lists: usize, cells: usize, list: usize, cell: usize) -> Change
+pub fn push(
+    ws: &mut [u32],
+    lists: usize,
+    cells: usize,
+    list: usize,
+    cell: usize,
+) -> Result<(), Broken>
     requires room { Room ws.old lists cells }
     requires list_lt_lists { (list < lists) × (cell < cells) }
     ensures { Pushed ws.old ws.new lists cells list cell result }
@@ -70,8 +50,8 @@ pub fn push(ws: &mut [u32], lists: usize, cells: usize, list: usize, cell: usize
     let f = list + lists;
     let n = f + lists;
     let size = ws[n];
-    if wide(size) >= cells {
-        return Change::ChangeBroken;
+    if size as usize >= cells {
+        return Err(Broken);
     }
     let p = lists + lists + lists + cell;
     let end = cell as u32;
@@ -81,11 +61,17 @@ pub fn push(ws: &mut [u32], lists: usize, cells: usize, list: usize, cell: usize
     ws[f] = first;
     ws[list] = end;
     ws[n] = size + 1;
-    Change::ChangeDone
+    Ok(())
 }
 
 // Appends the list `gone` to the list `stay`, and empties `gone`.
-pub fn join(ws: &mut [u32], lists: usize, cells: usize, stay: usize, gone: usize) -> Change
+pub fn join(
+    ws: &mut [u32],
+    lists: usize,
+    cells: usize,
+    stay: usize,
+    gone: usize,
+) -> Result<(), Broken>
     requires room { Room ws.old lists cells }
     requires stay_lt_lists { (stay < lists) × (gone < lists) × (stay ≢ gone) }
     ensures { Joined ws.old ws.new lists cells stay gone result }
@@ -94,18 +80,18 @@ pub fn join(ws: &mut [u32], lists: usize, cells: usize, stay: usize, gone: usize
     let gn = gf + lists;
     let more = ws[gn];
     if more == 0 {
-        return Change::ChangeDone;
+        return Ok(());
     }
     let sf = stay + lists;
     let sn = sf + lists;
     let size = ws[sn];
-    if wide(size) + wide(more) > cells {
-        return Change::ChangeBroken;
+    if size as usize + more as usize > cells {
+        return Err(Broken);
     }
     let head = ws[gf];
-    let seam = wide(head);
+    let seam = head as usize;
     if seam >= cells {
-        return Change::ChangeBroken;
+        return Err(Broken);
     }
     let p = lists + lists + lists + seam;
     let before = ws[stay];
@@ -116,7 +102,7 @@ pub fn join(ws: &mut [u32], lists: usize, cells: usize, stay: usize, gone: usize
     ws[stay] = end;
     ws[sn] = size + more;
     ws[gn] = 0;
-    Change::ChangeDone
+    Ok(())
 }
 
 // The number of cells of a list.
@@ -125,7 +111,7 @@ pub fn len(ws: &[u32], lists: usize, list: usize) -> usize
     ensures { Word ws.now (list + lists + lists) result }
 {
     let n = list + lists + lists;
-    wide(ws[n])
+    ws[n] as usize
 }
 
 // The word that holds a list's last cell; it says nothing of an empty list.
@@ -133,7 +119,7 @@ pub fn last(ws: &[u32], lists: usize, list: usize) -> usize
     requires { (lists + lists + lists ≤ length ws.now) × (list < lists) }
     ensures { Word ws.now list result }
 {
-    wide(ws[list])
+    ws[list] as usize
 }
 
 // The word that holds the cell before a cell; it says nothing of a first cell.
@@ -143,98 +129,107 @@ pub fn link(ws: &[u32], lists: usize, cells: usize, cell: usize) -> usize
     ensures { Word ws.now (lists + lists + lists + cell) result }
 {
     let p = lists + lists + lists + cell;
-    wide(ws[p])
+    ws[p] as usize
 }
 
 // k steps back from a cell.
-fn walk(ws: &[u32], lists: usize, cells: usize, cell: usize, k: usize) -> Cell
+fn walk(ws: &[u32], lists: usize, cells: usize, cell: usize, k: usize) -> Result<usize, Broken>
     requires room { Room ws.now lists cells }
     requires cell_lt_cells { cell < cells }
     ensures { result ≡ trail ws.now lists cells k cell }
 {
     let mut c = cell;
-    let mut i = k;
-    while i > 0 {
+    for taken in 0..k {
         let x = link(ws, lists, cells, c);
         if x >= cells {
-            return Cell::CellBroken;
+            return Err(Broken);
         }
         c = x;
-        i -= 1;
     }
-    Cell::CellAt(c)
+    Ok(c)
 }
 
 // The cell of a list that k others follow.
-pub fn nth(ws: &[u32], lists: usize, cells: usize, list: usize, k: usize) -> Cell
+pub fn nth(ws: &[u32], lists: usize, cells: usize, list: usize, k: usize) -> Result<usize, Broken>
     requires room { Room ws.now lists cells }
     requires list_lt_lists { list < lists }
     ensures { Reached ws.now lists cells list k result }
 {
     if k >= len(ws, lists, list) {
-        return Cell::CellBroken;
+        return Err(Broken);
     }
     if k >= cells {
-        return Cell::CellBroken;
+        return Err(Broken);
     }
     let end = last(ws, lists, list);
     if end >= cells {
-        return Cell::CellBroken;
+        return Err(Broken);
     }
     walk(ws, lists, cells, end, k)
 }
 
 // Where a cell stands in a list.
-fn seek(ws: &[u32], lists: usize, cells: usize, list: usize, cell: usize) -> Spot
+fn seek(
+    ws: &[u32],
+    lists: usize,
+    cells: usize,
+    list: usize,
+    cell: usize,
+) -> Result<Option<Spot>, Broken>
     requires room { Room ws.now lists cells }
     requires list_lt_lists { list < lists }
     ensures { Seen ws.now lists cells list cell result }
 {
     let links = lists + lists + lists;
-    let mut left = len(ws, lists, list);
-    if left > cells {
-        return Spot::SpotBroken;
+    let size = len(ws, lists, list);
+    if size > cells {
+        return Err(Broken);
     }
     let mut spot = list;
     let mut after = 0;
-    while left > 0 {
-        let cur = wide(ws[spot]);
+    for passed in 0..size {
+        let cur = ws[spot] as usize;
         if cur >= cells {
-            return Spot::SpotBroken;
+            return Err(Broken);
         }
         if cur == cell {
-            return Spot::SpotAt(left - 1, spot, after);
+            return Ok(Some(Spot {
+                before: size - passed - 1,
+                word: spot,
+                after,
+            }));
         }
         spot = links + cur;
         after = cur;
-        left -= 1;
     }
-    Spot::SpotAbsent
+    Ok(None)
 }
 
 // Takes a cell out of a list, wherever it stands there: the word that names it then names the cell before it.
-pub fn remove(ws: &mut [u32], lists: usize, cells: usize, list: usize, cell: usize) -> Cut
+pub fn remove(
+    ws: &mut [u32],
+    lists: usize,
+    cells: usize,
+    list: usize,
+    cell: usize,
+) -> Result<bool, Broken>
     requires room { Room ws.old lists cells }
     requires list_lt_lists { (list < lists) × (cell < cells) }
     ensures { Removed ws.old ws.new lists cells list cell result }
 {
-    let s = seek(ws, lists, cells, list, cell);
-    match s {
-        Spot::SpotAbsent => Cut::CutAbsent,
-        Spot::SpotBroken => Cut::CutBroken,
-        Spot::SpotAt(place, spot, after) => {
-            let f = list + lists;
-            let n = f + lists;
-            let p = lists + lists + lists + cell;
-            let size = ws[n];
-            let before = ws[p];
-            let first = choose(place as u32, after as u32, ws[f]);
-            ws[spot] = before;
-            ws[f] = first;
-            ws[n] = size - 1;
-            Cut::CutDone
-        }
-    }
+    let Some(spot) = seek(ws, lists, cells, list, cell)? else {
+        return Ok(false);
+    };
+    let f = list + lists;
+    let n = f + lists;
+    let p = lists + lists + lists + cell;
+    let size = ws[n];
+    let before = ws[p];
+    let first = choose(spot.before as u32, spot.after as u32, ws[f]);
+    ws[spot.word] = before;
+    ws[f] = first;
+    ws[n] = size - 1;
+    Ok(true)
 }
 
 // Gives up a list: its cells are in no list then.
@@ -251,11 +246,5 @@ pub fn clear(ws: &mut [u32], lists: usize)
     requires { lists + lists + lists ≤ length ws.old }
     ensures { Cleared ws.old ws.new lists lists }
 {
-    let sizes = lists + lists;
-    let mut i = 0;
-    while i < lists {
-        let p = sizes + i;
-        ws[p] = 0;
-        i += 1;
-    }
+    ws[2 * lists..3 * lists].fill(0);
 }

@@ -1,10 +1,9 @@
 -- Demand 3: after a rebuild two ids have one root exactly when the requested unions force them equal, and before it one root still means forced equal.
 -- A rebuild has one outcome (Ends: and there is one), and a second one does nothing.
 -- Assumes nothing.
-use Rattle.std.specs.Prelude.{Bool, false, true, ◌↔◌, ◌≢◌, ◌⊎◌, ◌≡◌, refl, ◌+◌, ◌<◌, suc, zero, ℕ, length}
+use Rattle.std.specs.Prelude.{Bool, false, true, ◌↔◌, ◌≢◌, ◌⊎◌, ◌≡◌, refl, ◌+◌, ◌<◌, suc, zero, ℕ, length, Option, None, Some}
 use mathlib.Core.List.{List, [], ◌∷◌, cons≢nil, map}
 use Rattle.std.proofs.Common.{inl, inr, ◌∙◌, ap, sym, arith, ext_get_or}
-use Rattle.std.proofs.Math.Option.{Option, none, some}
 use Rattle.std.proofs.Math.Decide.{dec_lt, ℕ_discrete}
 use Rattle.std.proofs.lemmas.List.{length-map}
 use Rattle.lists.specs.Members.{Mem, mem-nil}
@@ -53,7 +52,7 @@ meet : (us : List (ℕ × ℕ)) (g : Graph) → Good Same us g → g.pending ≡
 meet us g G e i j i_lt j_lt q =
     let s = settled us g G e i i_lt in
     let t = settled us g G e j j_lt in
-    let f : kept (key_of g j) g.memo ≡ some s.0 = rw q at s.1 in
+    let f : kept (key_of g j) g.memo ≡ Some s.0 = rw q at s.1 in
     let m : s.0 ≡ t.0 = cc (f, t.1) in
     s.2 ∙ (ap (root g.roots) m ∙ sym t.2)
 
@@ -77,7 +76,7 @@ closed M r i j = (sound (rebuilt r M) i j, λ f. complete (rebuilt r M) (rebuilt
 
 -- with nothing pending, `lookup` finds a node whose key an id has, and answers that id's root (`lookup_from` of Slots: and no other)
 pub lookup_finds : {us : List (ℕ × ℕ)} {g : Graph} → Made us g → g.pending ≡ [] → (x : Term) (i : ℕ) → i < ids g
-    → canon g.roots x ≡ key_of g i → lookup g x ≡ some (root g.roots i)
+    → canon g.roots x ≡ key_of g i → lookup g x ≡ Some (root g.roots i)
 unfolding lookup
 lookup_finds {us} {g} M e x i i_lt q = let s = settled us g (made_good M) e i i_lt in rw (q, s.1, s.2)
 
@@ -176,8 +175,8 @@ run_enough (more {g = g} n r) (suc f) lt = let ih = run_enough r f (omega arith)
 
 close_unclean : (g : Graph) (o : Option ℕ) (i : ℕ) → g.clean ≡ false → (close g o i).graph.clean ≡ false
 unfolding close
-close_unclean g none i e = e
-close_unclean g (some j) i e = union_unclean g j i
+close_unclean g None i e = e
+close_unclean g (Some j) i e = union_unclean g j i
 
 pub step_unclean : (g : Graph) (p : List ℕ) → g.clean ≡ false → (step g p).graph.clean ≡ false
 unfolding step

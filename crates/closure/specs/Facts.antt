@@ -1,8 +1,7 @@
 -- What `kept`, `root`, `node`, `uses` and `link` say: the reads of a graph after one of its parts has changed.
 -- Assumes nothing.
-use Rattle.std.specs.Prelude.{List, [], ◌++◌, ◌∷◌, map, ◌≢◌, ◌⊎◌, ◌≡◌, refl, ◌<◌, ◌≤◌, ℕ}
+use Rattle.std.specs.Prelude.{List, [], ◌++◌, ◌∷◌, map, ◌≢◌, ◌⊎◌, ◌≡◌, refl, ◌<◌, ◌≤◌, ℕ, Some}
 use Rattle.std.proofs.Common.{inl, inr, ◌∙◌, sym, arith}
-use Rattle.std.proofs.Math.Option.{some}
 use lib.ListN.{get_or-append, get_or-eq_default, length, length-set, set}
 use lib.Seq.{get_or-append_seam, get_or-set_other, get_or-set_same, lt-length-set}
 use Rattle.lists.specs.Members.{Mem, here, mem-append-cases, mem-cases, mem-left, mem-nil, mem_one, mem-right, there}
@@ -15,13 +14,13 @@ use Rattle.steps.specs.Machine.{link}
 
 -- ---- the table
 
-pub kept_here : (k k' : Term) (i : ℕ) (m : List (Term × ℕ)) → k ≡ k' → kept k ((k', i) ∷ m) ≡ some i
+pub kept_here : (k k' : Term) (i : ℕ) (m : List (Term × ℕ)) → k ≡ k' → kept k ((k', i) ∷ m) ≡ Some i
 unfolding kept
-kept_here k k' i m e = when_yes (same_term k k') (some i) (kept k m) e
+kept_here k k' i m e = when_yes (same_term k k') (Some i) (kept k m) e
 
 pub kept_past : (k k' : Term) (i : ℕ) (m : List (Term × ℕ)) → k ≢ k' → kept k ((k', i) ∷ m) ≡ kept k m
 unfolding kept
-kept_past k k' i m e = when_no (same_term k k') (some i) (kept k m) e
+kept_past k k' i m e = when_no (same_term k k') (Some i) (kept k m) e
 
 -- ---- root, node, uses
 

@@ -1,9 +1,8 @@
 -- An add keeps the invariant. What was forced stays forced when nodes are added.
 -- Assumes nothing.
 use mathlib.Core.List.{List, [], ◌++◌, ◌∷◌, map}
-use Rattle.std.specs.Prelude.{◌⊎◌, ◌≡◌, refl, length}
+use Rattle.std.specs.Prelude.{◌⊎◌, ◌≡◌, refl, length, Option, None, Some}
 use Rattle.std.proofs.Common.{inl, inr, ◌∙◌, sym, arith}
-use Rattle.std.proofs.Math.Option.{Option, none, some}
 use Rattle.std.proofs.Math.Path.{ap, fun_ext}
 use Prim.Native.Nat.{◌<◌, suc, ℕ}
 use Rattle.lists.specs.Members.{Mem, here, mem-cases, mem-map, there}
@@ -31,7 +30,7 @@ forced_grow {ns} {us} x (alike {i = i} {j = j} i_lt j_lt m e) = forced_alike_gro
 
 -- ---- add
 
-module _ (us : List (ℕ × ℕ)) (g : Graph) (x : Term) (G : Good Same us g) (kids_in : (c : ℕ) → Mem c x.kids → c < ids g) (absent : kept (canon g.roots x) g.memo ≡ none) where
+module _ (us : List (ℕ × ℕ)) (g : Graph) (x : Term) (G : Good Same us g) (kids_in : (c : ℕ) → Mem c x.kids → c < ids g) (absent : kept (canon g.roots x) g.memo ≡ None) where
   n : ℕ
   n = ids g
 
@@ -128,7 +127,7 @@ module _ (us : List (ℕ × ℕ)) (g : Graph) (x : Term) (G : Good Same us g) (k
       stands : Stands ns' us (canon g.roots x) x
       stands = canon_stands us ns' g.roots x (λ i. rw (root_same i) at (to i))
 
-      keep : (k : Term) (m : ℕ) → kept k g.memo ≡ some m → Stands ns' us k (node ns' m)
+      keep : (k : Term) (m : ℕ) → kept k g.memo ≡ Some m → Stands ns' us k (node ns' m)
       keep k m e = rw (old_node m (G.sound.memo_lt k m e)) (record { match = (G.sound.keys k m e).match; each = λ p h. forced_grow x ((G.sound.keys k m e).each p h) })
 
   grow_whole : Whole Same us ns' rs' ((canon g.roots x, ids g) ∷ g.memo) (ids g ∷ g.pending)
@@ -143,7 +142,7 @@ module _ (us : List (ℕ × ℕ)) (g : Graph) (x : Term) (G : Good Same us g) (k
       key : (j : ℕ) → j < ids g → canon rs' (node ns' j) ≡ key_of g j
       key j h = rw (old_node j h) (ap (λ f. record { op = (node g.nodes j).op; payload = (node g.nodes j).payload; kids = map f (node g.nodes j).kids }) roots_same)
 
-      never : (j m : ℕ) → kept (key_of g j) g.memo ≡ some m → key_of g j ≡ canon g.roots x → ⊥
+      never : (j m : ℕ) → kept (key_of g j) g.memo ≡ Some m → key_of g j ≡ canon g.roots x → ⊥
       never j m e q = zero_one cc
 
       old : (j : ℕ) → j < ids g → Mem j g.pending ⊎ Settled Same g.nodes g.roots g.memo j
@@ -168,5 +167,5 @@ unfolding add add_uncanonical add_by
 add_good us g x G kids_in = go (kept (canon g.roots x) g.memo) refl
   where
     go : (o : Option ℕ) → kept (canon g.roots x) g.memo ≡ o → Good Same us (add_by g x o).graph
-    go none e = grow_good us g x G kids_in e
-    go (some i) e = G
+    go None e = grow_good us g x G kids_in e
+    go (Some i) e = G

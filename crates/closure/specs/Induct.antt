@@ -1,8 +1,7 @@
 -- To prove something of every graph that calls make, show that six plain changes keep it. The number c counts the entries that rebuilds took so far.
 -- Assumes nothing.
-use Rattle.std.specs.Prelude.{false, true, ◌≢◌, ◌≡◌, ◌+◌, ◌<◌, ◌≤◌, suc, ℕ, length}
+use Rattle.std.specs.Prelude.{false, true, ◌≢◌, ◌≡◌, ◌+◌, ◌<◌, ◌≤◌, suc, ℕ, length, Option, None, Some}
 use mathlib.Core.List.{List, [], ◌∷◌}
-use Rattle.std.proofs.Math.Option.{Option, none, some}
 use Rattle.std.proofs.Math.Path.{refl}
 use Rattle.std.proofs.Common.{subst, sym}
 use Rattle.std.proofs.Math.Decide.{dec_lt, ℕ_discrete}
@@ -43,7 +42,7 @@ pub record Steps (P : ℕ → Graph → Type 0) : Type 0 where
 pub record Keeps (P : ℕ → Graph → Type 0) : Type 0 where
   pub steps : Steps P
   pub at_fresh : P 0 fresh
-  pub at_grow : (us : List (ℕ × ℕ)) (c : ℕ) (g : Graph) (x : Term) → Good Same us g → ((k : ℕ) → Mem k x.kids → k < ids g) → kept (canon g.roots x) g.memo ≡ none
+  pub at_grow : (us : List (ℕ × ℕ)) (c : ℕ) (g : Graph) (x : Term) → Good Same us g → ((k : ℕ) → Mem k x.kids → k < ids g) → kept (canon g.roots x) g.memo ≡ None
       → P c g → P c (grow g x)
 
 module _ (P : ℕ → Graph → Type 0) (K : Steps P) where
@@ -64,8 +63,8 @@ module _ (P : ℕ → Graph → Type 0) (K : Steps P) where
   close_keeps : (us : List (ℕ × ℕ)) (c : ℕ) (g : Graph) (i : ℕ) (rest : List ℕ) → Good Same us g → g.pending ≡ i ∷ rest
       → (o : Option ℕ) → kept (key_of g i) g.memo ≡ o → P c g → P (suc c) (close (taken g i rest) o i).graph
   unfolding close
-  close_keeps us c g i rest G top none e p = K.at_take us c g i rest G top p
-  close_keeps us c g i rest G top (some o) e p =
+  close_keeps us c g i rest G top None e p = K.at_take us c g i rest G top p
+  close_keeps us c g i rest G top (Some o) e p =
       union_keeps (suc c) (taken g i rest) o i (taken_shape us g i rest G top) (G.sound.memo_lt (key_of g i) o e) (top_lt us g i rest G top) (K.at_take us c g i rest G top p)
 
   pub step_keeps : (us : List (ℕ × ℕ)) (c : ℕ) (g : Graph) (l : List ℕ) → g.pending ≡ l → l ≢ [] → Good Same us g → P c g → P (suc c) (step g l).graph
@@ -84,8 +83,8 @@ module _ (P : ℕ → Graph → Type 0) (K : Keeps P) where
   add_keeps us c g x G kids_in p = go (kept (canon g.roots x) g.memo) refl
     where
       go : (o : Option ℕ) → kept (canon g.roots x) g.memo ≡ o → P c (add_by g x o).graph
-      go none e = K.at_grow us c g x G kids_in e p
-      go (some i) e = p
+      go None e = K.at_grow us c g x G kids_in e p
+      go (Some i) e = p
 
   pub made_keeps : {us : List (ℕ × ℕ)} {g : Graph} (M : Made us g) → P (took M) g
   unfolding took

@@ -1,17 +1,14 @@
 -- The invariant of the graphs that calls make: ranges, what the table and the roots stand for, and what is still to do.
 -- Assumes nothing.
-use Rattle.std.specs.Prelude.{◌∷◌, ◌⊎◌, refl, ◌<◌, ℕ, List, ◌≡◌, length}
+use Rattle.std.specs.Prelude.{◌∷◌, ◌⊎◌, refl, ◌<◌, ℕ, List, ◌≡◌, length, Some}
 use Rattle.std.proofs.Common.{inl, inr, ◌∙◌, sym}
 use Rattle.std.proofs.lemmas.List.{length-map}
-use Rattle.lists.specs.Reads.{get_or_map_lt}
+use Rattle.lists.specs.Reads.{get_or_map_lt, at}
 use Rattle.language.specs.Term.{Match, Term, same_term}
-use Rattle.steps.specs.Forced.{alike, back, then}
+use Rattle.steps.specs.Forced.{alike, back, then, Forced}
 use Rattle.steps.specs.Graph.{Graph, canon, kept, node, root, uses}
 use Rattle.closure.specs.Facts.{kept_here, kept_past}
-use Rattle.std.proofs.Math.Option.{some}
 use Rattle.lists.specs.Members.{Mem}
-use Rattle.lists.specs.Reads.{at}
-use Rattle.steps.specs.Forced.{Forced}
 
 -- ---- the invariant
 
@@ -38,13 +35,13 @@ pub record Stands (ns : List Term) (us : List (ℕ × ℕ)) (k x : Term) : Type 
   pub each : (p : ℕ) → p < length k.kids → Forced ns us (at k.kids p) (at x.kids p)
 
 pub record Sound (us : List (ℕ × ℕ)) (ns : List Term) (rs : List ℕ) (memo : List (Term × ℕ)) : Type 0 where
-  pub memo_lt : (k : Term) (i : ℕ) → kept k memo ≡ some i → i < length ns
+  pub memo_lt : (k : Term) (i : ℕ) → kept k memo ≡ Some i → i < length ns
   pub to_root : (i : ℕ) → Forced ns us i (root rs i)
-  pub keys : (k : Term) (i : ℕ) → kept k memo ≡ some i → Stands ns us k (node ns i)
+  pub keys : (k : Term) (i : ℕ) → kept k memo ≡ Some i → Stands ns us k (node ns i)
 
 -- the table leads from the node of j to an id whose root is, by N, that of j
 abbrev pub Settled : (N : ℕ → ℕ → Type 0) → List Term → List ℕ → List (Term × ℕ) → ℕ → Type 0
-Settled N ns rs memo j = (m : ℕ) × (kept (canon rs (node ns j)) memo ≡ some m) × N (root rs j) (root rs m)
+Settled N ns rs memo j = (m : ℕ) × (kept (canon rs (node ns j)) memo ≡ Some m) × N (root rs j) (root rs m)
 
 pub record Whole (N : ℕ → ℕ → Type 0) (us : List (ℕ × ℕ)) (ns : List Term) (rs : List ℕ) (memo : List (Term × ℕ)) (pend : List ℕ) : Type 0 where
   pub asks : (i j : ℕ) → Mem (i, j) us → N (root rs i) (root rs j)
@@ -84,14 +81,14 @@ set_sound us ns rs memo key i i_lt st O = record {
   keys = λ k m e. keep k m e (same_term k key);
 }
   where
-    is : (k : Term) (m : ℕ) → kept k ((key, i) ∷ memo) ≡ some m → k ≡ key → i ≡ m
+    is : (k : Term) (m : ℕ) → kept k ((key, i) ∷ memo) ≡ Some m → k ≡ key → i ≡ m
     is k m e q = cc (kept_here k key i memo q, e)
 
-    lt : (k : Term) (m : ℕ) → kept k ((key, i) ∷ memo) ≡ some m → Dec (k ≡ key) → m < length ns
+    lt : (k : Term) (m : ℕ) → kept k ((key, i) ∷ memo) ≡ Some m → Dec (k ≡ key) → m < length ns
     lt k m e (yes q) = rw (is k m e q) at i_lt
     lt k m e (no n) = O.memo_lt k m (sym (kept_past k key i memo n) ∙ e)
 
-    keep : (k : Term) (m : ℕ) → kept k ((key, i) ∷ memo) ≡ some m → Dec (k ≡ key) → Stands ns us k (node ns m)
+    keep : (k : Term) (m : ℕ) → kept k ((key, i) ∷ memo) ≡ Some m → Dec (k ≡ key) → Stands ns us k (node ns m)
     keep k m e (yes q) = rw (q, ← (is k m e q)) st
     keep k m e (no n) = O.keys k m (sym (kept_past k key i memo n) ∙ e)
 

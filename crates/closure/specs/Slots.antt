@@ -1,7 +1,6 @@
 -- The table leads from a live key to an id whose own key it is. So an id has at most one live key, and n places hold the table of n ids.
 -- Assumes nothing.
-use Rattle.std.specs.Prelude.{List, [], ◌++◌, ◌∷◌, map, ◌≢◌, ◌≡◌, refl, ◌<◌, ℕ, length}
-use Rattle.std.proofs.Math.Option.{Option, none, some}
+use Rattle.std.specs.Prelude.{List, [], ◌++◌, ◌∷◌, map, ◌≢◌, ◌≡◌, refl, ◌<◌, ℕ, length, Option, None, Some}
 use Rattle.std.proofs.Common.{◌∙◌, ap, sym, arith}
 use Rattle.lists.specs.Members.{Mem, map_same, mem-map}
 use Rattle.lists.specs.Options.{none≢some}
@@ -17,7 +16,7 @@ use Rattle.closure.specs.Kept.{made_good}
 use Rattle.closure.specs.Tables.{Live, canon_live}
 
 abbrev pub Keyed : List Term → List ℕ → List (Term × ℕ) → Type 0
-Keyed ns rs memo = (k : Term) (i : ℕ) → Live rs k → kept k memo ≡ some i → k ≡ canon rs (node ns i)
+Keyed ns rs memo = (k : Term) (i : ℕ) → Live rs k → kept k memo ≡ Some i → k ≡ canon rs (node ns i)
 
 canon_same : (rs rs' : List ℕ) (x : Term) → ((c : ℕ) → Mem c x.kids → root rs c ≡ root rs' c) → canon rs x ≡ canon rs' x
 canon_same rs rs' x h = let e = map_same (root rs) (root rs') x.kids h in λ i. record { op = x.op; payload = x.payload; kids = e i }
@@ -55,7 +54,7 @@ grow_keyed us g x G K = keyed_set ns rs g.memo (canon g.roots x) (ids g) (rw (no
     same : (y : Term) → canon g.roots y ≡ canon rs y
     same y = canon_same g.roots rs y (λ c m. sym (more_root c))
 
-    old : (k : Term) (i : ℕ) → kept k g.memo ≡ some i → Live g.roots k → k ≡ canon rs (node ns i)
+    old : (k : Term) (i : ℕ) → kept k g.memo ≡ Some i → Live g.roots k → k ≡ canon rs (node ns i)
     old k i e live = rw (node_old g.nodes x i (G.sound.memo_lt k i e)) (K k i live e ∙ same (node g.nodes i))
 
 pub made_keyed : {us : List (ℕ × ℕ)} {g : Graph} → Made us g → Keyed g.nodes g.roots g.memo
@@ -72,20 +71,20 @@ made_keyed M = made_keeps (λ c g. Keyed g.nodes g.roots g.memo) (record {
 }) M
 
 -- two live keys that lead to one id are one key
-pub one_slot : {us : List (ℕ × ℕ)} {g : Graph} → Made us g → (k k' : Term) (i : ℕ) → Live g.roots k → Live g.roots k' → kept k g.memo ≡ some i → kept k' g.memo ≡ some i → k ≡ k'
+pub one_slot : {us : List (ℕ × ℕ)} {g : Graph} → Made us g → (k k' : Term) (i : ℕ) → Live g.roots k → Live g.roots k' → kept k g.memo ≡ Some i → kept k' g.memo ≡ Some i → k ≡ k'
 one_slot M k k' i l l' e e' = made_keyed M k i l e ∙ sym (made_keyed M k' i l' e')
 
 -- what `lookup` finds is an id with that key
-pub lookup_from : {us : List (ℕ × ℕ)} {g : Graph} → Made us g → (x : Term) (r : ℕ) → lookup g x ≡ some r → (i : ℕ) × (i < ids g) × (canon g.roots x ≡ key_of g i) × (root g.roots i ≡ r)
+pub lookup_from : {us : List (ℕ × ℕ)} {g : Graph} → Made us g → (x : Term) (r : ℕ) → lookup g x ≡ Some r → (i : ℕ) × (i < ids g) × (canon g.roots x ≡ key_of g i) × (root g.roots i ≡ r)
 unfolding lookup
 lookup_from {us} {g} M x r e = go (kept (canon g.roots x) g.memo) refl e
   where
     G : Good Same us g
     G = made_good M
 
-    go : (o : Option ℕ) → kept (canon g.roots x) g.memo ≡ o → root_of g.roots o ≡ some r → (i : ℕ) × (i < ids g) × (canon g.roots x ≡ key_of g i) × (root g.roots i ≡ r)
-    go none f q = absurd (none≢some q)
-    go (some i) f q = (i, G.sound.memo_lt (canon g.roots x) i f, made_keyed M (canon g.roots x) i (canon_live g.roots x G.shape.root_root) f, cc q)
+    go : (o : Option ℕ) → kept (canon g.roots x) g.memo ≡ o → root_of g.roots o ≡ Some r → (i : ℕ) × (i < ids g) × (canon g.roots x ≡ key_of g i) × (root g.roots i ≡ r)
+    go None f q = absurd (none≢some q)
+    go (Some i) f q = (i, G.sound.memo_lt (canon g.roots x) i f, made_keyed M (canon g.roots x) i (canon_live g.roots x G.shape.root_root) f, cc q)
 
 -- ---- an entry of a rebuild keeps it
 

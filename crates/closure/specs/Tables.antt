@@ -1,8 +1,7 @@
 -- Only the live keys of the table count: two graphs that differ in their tables, and there only at dead keys, answer alike and stay so.
 -- A port may drop dead keys, and use their space again, whenever it likes.
 -- Assumes nothing.
-use Rattle.std.specs.Prelude.{List, [], ◌++◌, ◌∷◌, ◌≢◌, ◌≡◌, refl, ◌+◌, ◌<◌, suc, ℕ, length}
-use Rattle.std.proofs.Math.Option.{Option, none, some}
+use Rattle.std.specs.Prelude.{List, [], ◌++◌, ◌∷◌, ◌≢◌, ◌≡◌, refl, ◌+◌, ◌<◌, suc, ℕ, length, Option, None, Some}
 use Rattle.std.proofs.Common.{◌∙◌, ap, sym, arith}
 use Rattle.std.proofs.Math.Decide.{dec_lt, ℕ_discrete}
 use Rattle.lists.specs.Members.{Mem, mem-of-map}
@@ -87,11 +86,11 @@ lookup_agree us g m x G A = rw (A (canon g.roots x) (canon_live g.roots x G.shap
 add_by_agree : (us : List (ℕ × ℕ)) (g : Graph) (m : List (Term × ℕ)) (x : Term) → Good Same us g → Agree g.roots g.memo m → (o : Option ℕ)
     → (m' : List (Term × ℕ)) × (add_by (re g m) x o ≡ record { graph = re (add_by g x o).graph m'; id = (add_by g x o).id }) × Agree (add_by g x o).graph.roots (add_by g x o).graph.memo m'
 unfolding add_by grow
-add_by_agree us g m x G A none = ((canon g.roots x, ids g) ∷ m, refl, wide)
+add_by_agree us g m x G A None = ((canon g.roots x, ids g) ∷ m, refl, wide)
   where
     wide : Agree (g.roots ++ (ids g ∷ [])) ((canon g.roots x, ids g) ∷ g.memo) ((canon g.roots x, ids g) ∷ m)
     wide k live = agree_set g.roots g.memo m (canon g.roots x) (ids g) A k (λ c h. rw (root_more g.roots (ids g) c G.shape.rl) at (live c h))
-add_by_agree us g m x G A (some i) = (m, refl, A)
+add_by_agree us g m x G A (Some i) = (m, refl, A)
 
 pub add_agree : (us : List (ℕ × ℕ)) (g : Graph) (m : List (Term × ℕ)) (x : Term) → Good Same us g → Agree g.roots g.memo m
     → (m' : List (Term × ℕ)) × (add_uncanonical (re g m) x ≡ record { graph = re (add_uncanonical g x).graph m'; id = (add_uncanonical g x).id })
@@ -111,8 +110,8 @@ close_agree : (us : List (ℕ × ℕ)) (g : Graph) (m : List (Term × ℕ)) (i :
     → (close (re (taken g i rest) m) o i ≡ record { graph = re (close (taken g i rest) o i).graph m; answer = (close (taken g i rest) o i).answer })
     × Agree (close (taken g i rest) o i).graph.roots (close (taken g i rest) o i).graph.memo m
 unfolding close
-close_agree us g m i rest G top A none e = (refl, A)
-close_agree us g m i rest G top A (some o) e = (
+close_agree us g m i rest G top A None e = (refl, A)
+close_agree us g m i rest G top A (Some o) e = (
   union_re (taken g i rest) m o i,
   union_agree (taken g i rest) m o i (taken_shape us g i rest G top) (G.sound.memo_lt (key_of g i) o e) (top_lt us g i rest G top) A,
 )

@@ -1,8 +1,7 @@
 -- An entry taken from pending, and so a rebuild, keeps the invariant.
 -- Assumes nothing.
-use Rattle.std.specs.Prelude.{List, [], ◌∷◌, ◌⊎◌, ◌≡◌, refl, ◌<◌, ℕ}
+use Rattle.std.specs.Prelude.{List, [], ◌∷◌, ◌⊎◌, ◌≡◌, refl, ◌<◌, ℕ, Option, None, Some}
 use Rattle.std.proofs.Math.Logic.{inl, inr}
-use Rattle.std.proofs.Math.Option.{Option, none, some}
 use Rattle.std.proofs.Common.{◌∙◌, ap}
 use Rattle.lists.specs.Members.{Mem, here, mem-cases, there}
 use Rattle.lists.specs.Tests.{zero_one}
@@ -34,7 +33,7 @@ module _ (us : List (ℕ × ℕ)) (g : Graph) (i : ℕ) (rest : List ℕ) (G : G
 
   -- N holds what was equal, and the roots of what led to the old entry and of i
   taken_good : (N : ℕ → ℕ → Type 0) → ((x y : ℕ) → x ≡ y → N x y)
-      → ((m : ℕ) → kept (key_of g i) g.memo ≡ some m → N (root g.roots m) (root g.roots i)) → Good N us (taken g i rest)
+      → ((m : ℕ) → kept (key_of g i) g.memo ≡ Some m → N (root g.roots m) (root g.roots i)) → Good N us (taken g i rest)
   taken_good N eq old = record {
     shape = taken_shape;
     sound = taken_sound;
@@ -61,16 +60,16 @@ module _ (us : List (ℕ × ℕ)) (g : Graph) (i : ℕ) (rest : List ℕ) (G : G
 
   close_good : (o : Option ℕ) → kept (key_of g i) g.memo ≡ o → Good Same us (close (taken g i rest) o i).graph
   unfolding close
-  close_good none e = taken_good Same (λ x y q. q) (λ m q. absurd (never m q))
+  close_good None e = taken_good Same (λ x y q. q) (λ m q. absurd (never m q))
     where
-      never : (m : ℕ) → kept (key_of g i) g.memo ≡ some m → ⊥
+      never : (m : ℕ) → kept (key_of g i) g.memo ≡ Some m → ⊥
       never m q = zero_one cc
-  close_good (some o) e = union_good us (taken g i rest) o i (G.sound.memo_lt (key_of g i) o e) top_lt
+  close_good (Some o) e = union_good us (taken g i rest) o i (G.sound.memo_lt (key_of g i) o e) top_lt
       (stand_forced us g.nodes (key_of g i) o i (G.sound.memo_lt (key_of g i) o e) top_lt
       (G.sound.keys (key_of g i) o e) (canon_stands us g.nodes g.roots (node g.nodes i) G.sound.to_root))
       (taken_good (Owed (root g.roots o) (root g.roots i)) (λ x y q. inl q) (λ m q. inr (ap (root g.roots) (is m q), refl)))
     where
-      is : (m : ℕ) → kept (key_of g i) g.memo ≡ some m → m ≡ o
+      is : (m : ℕ) → kept (key_of g i) g.memo ≡ Some m → m ≡ o
       is m q = cc
 
 pub step_good : (us : List (ℕ × ℕ)) (g : Graph) (p : List ℕ) → g.pending ≡ p → Good Same us g → Good Same us (step g p).graph

@@ -15,10 +15,8 @@ pub struct Built {
 
 // Leaf i has the operator 1 and the payload i.
 fn add_leaves(rt: &impl Print, ws: &mut [u32; WORDS], count: u32) {
-    let mut i: u32 = 0;
-    while i < count {
+    for i in 0..count {
         calls::add(rt, ws, Node::leaf(Op(1), i));
-        i += 1;
     }
 }
 
@@ -34,8 +32,7 @@ fn some_node(seed: u64, ids: u32, leaves: u32) -> Node
     let a = next(seed);
     let b = next(a);
     let c = next(b);
-    let node = Node::leaf(Op(2 + below(a, 4)), 0);
-    let one = node.with(Id(below(c, ids)));
+    let one = Node::leaf(Op(2 + below(a, 4)), 0).with(Id(below(c, ids)));
     if below(b, 2) == 0 {
         return one;
     }
@@ -47,18 +44,10 @@ fn grow(rt: &impl Print, ws: &mut [u32; WORDS], b: Built, leaves: u32) -> Built
     requires { (1 ≤ b.ids) × (b.ids < 50000) × (1 ≤ leaves) }
     ensures { (b.ids ≤ result.ids) × (result.ids ≤ b.ids + 1) }
 {
-    let ids = b.ids;
-    let seed = b.seed;
-    let id = calls::add(rt, ws, some_node(seed, ids, leaves));
-    if id == ids {
-        return Built {
-            ids: ids + 1,
-            seed: fourth(seed),
-        };
-    }
+    let id = calls::add(rt, ws, some_node(b.seed, b.ids, leaves));
     Built {
-        ids: ids,
-        seed: fourth(seed),
+        ids: b.ids + u32::from(id == b.ids),
+        seed: fourth(b.seed),
     }
 }
 
@@ -71,13 +60,11 @@ pub fn nodes(rt: &impl Print, ws: &mut [u32; WORDS], n: u32, leaves: u32) -> Bui
         ids: leaves,
         seed: 1,
     };
-    let mut turns: u32 = 0;
-    while turns < n + n {
+    for _ in 0..n + n {
         if n <= b.ids {
-            return b;
+            break;
         }
         b = grow(rt, ws, b, leaves);
-        turns += 1;
     }
     b
 }
@@ -88,12 +75,10 @@ pub fn unions(rt: &impl Print, ws: &mut [u32; WORDS], seed: u64, leaves: u32, co
 {
     let mut x = seed;
     let mut yes: u32 = 0;
-    let mut i: u32 = 0;
-    while i < count {
+    for _ in 0..count {
         let a = next(x);
         x = next(a);
-        yes += calls::union(rt, ws, below(a, leaves), below(x, leaves));
-        i += 1;
+        yes += u32::from(calls::union(rt, ws, Id(below(a, leaves)), Id(below(x, leaves))));
     }
     yes
 }

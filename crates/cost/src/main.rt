@@ -33,8 +33,8 @@ fn graph(rt: &impl Print, ws: &mut [u32; WORDS], n: u32) -> io::Result<()>
 
 fn main(rt: HostRuntime) -> io::Result<()> {
     let mut ws = [0u32; WORDS];
-    graph(&rt, &mut ws, 5000)?;
-    graph(&rt, &mut ws, 10000)?;
-    graph(&rt, &mut ws, 20000)?;
-    graph(&rt, &mut ws, 50000)
+    for n in [5000, 10000, 20000, 50000] {
+        graph(&rt, &mut ws, n)?;
+    }
+    Ok(())
 }

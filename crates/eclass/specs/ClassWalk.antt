@@ -2,9 +2,9 @@
 -- as. `Walk` is what a loop over such a walk keeps, whatever it makes of the ids that it has passed. On words that hold lists of members the ids are the list.
 -- Assumes nothing.
 use Rattle.std.specs.Prelude.{List, [], ◌++◌, ◌∷◌, map, ◌≡◌, length}
-use Rattle.std.proofs.Common.{append_assoc, append-nil, ◌∙◌, sym, arith, length-append}
+use Rattle.std.proofs.Common.{add-one, append_assoc, append-nil, ◌∙◌, sym, arith, length-append}
 use Rattle.std.proofs.Math.Path.{refl, subst}
-use Prim.Native.Nat.{◌+◌, ◌-◌, ◌<◌, ◌≤◌, suc, zero, ℕ}
+use Prim.Native.Nat.{◌+◌, ◌<◌, ◌≤◌, suc, zero, ℕ}
 use Rattle.std.proofs.Math.ListN.{take}
 use Rattle.std.proofs.Math.Seq.{take-length, take-suc}
 use Rattle.lists.specs.Members.{Mem, here, mem-left, mem-right}
@@ -44,47 +44,40 @@ length_back ms n zero cur = refl
 length_back ms n (suc k) cur =
     length-append (back ms n k (at ms (n + n + n + cur))) (cur ∷ []) ∙ omega (arith, length_back ms n k (at ms (n + n + n + cur)))
 
-pub back_step : (ms : List ℕ) (n k cur : ℕ) → 0 < k → back ms n k cur ≡ back ms n (k - 1) (at ms (n + n + n + cur)) ++ (cur ∷ [])
+pub back_none : (ms : List ℕ) (n k cur : ℕ) → k ≡ 0 → back ms n k cur ≡ []
 unfolding back
-back_step ms n zero cur h = absurd (omega arith)
-back_step ms n (suc k) cur h = let e : suc k - 1 ≡ k = omega arith in rw e refl
+back_none ms n k cur e = rw e refl
+
+pub back_step : (ms : List ℕ) (n k next cur : ℕ) → k ≡ next + 1 → back ms n k cur ≡ back ms n next (at ms (n + n + n + cur)) ++ (cur ∷ [])
+unfolding back
+back_step ms n k next cur h = rw (h, add-one next) refl
 
 -- ---- a walk on its way
 
--- `left` ids are still to come, the next of them is cur, and what is kept of those that were passed, in list order, is P
-pub record Walk (ms : List ℕ) (n r left cur : ℕ) (P : List ℕ → Type 0) : Type 0 where
+-- the ids that are still to come are `todo`, and what is kept of those that were passed, in list order, is P
+pub record Walk (ms : List ℕ) (n r : ℕ) (todo : List ℕ) (P : List ℕ → Type 0) : Type 0 where
   pub done : List ℕ
-  pub whole : class_ids ms n r ≡ back ms n left cur ++ done
+  pub whole : class_ids ms n r ≡ todo ++ done
   pub kept : P done
 
--- the same said by how the walk began, with k ids of which start is the last: it is on its way over whichever list reads so
-abbrev pub WalkFrom : List ℕ → ℕ → ℕ → ℕ → ℕ → ℕ → (List ℕ → Type 0) → Type 0
-WalkFrom ms n k start left cur P = (r : ℕ) → k ≡ len_of ms n r → start ≡ at ms r → Walk ms n r left cur P
-
 module _ (ms : List ℕ) (n r : ℕ) where
-  pub walk_start : (P : List ℕ → Type 0) (k cur : ℕ) → k ≡ len_of ms n r → cur ≡ at ms r → P [] → Walk ms n r k cur P
-  walk_start P k cur ek ec p = record { done = []; whole = rw (ek, ec) (sym (append-nil (class_ids ms n r))); kept = p }
+  pub walk_start : (P : List ℕ → Type 0) (todo : List ℕ) → todo ≡ class_ids ms n r → P [] → Walk ms n r todo P
+  walk_start P todo e p = record { done = []; whole = rw e (sym (append-nil (class_ids ms n r))); kept = p }
 
-  -- the id that comes next is one of the list
-  pub walk_next : (P : List ℕ → Type 0) (left cur : ℕ) → 0 < left → Walk ms n r left cur P → Mem cur (class_ids ms n r)
-  walk_next P left cur h w =
-      rw (w.whole, back_step ms n left cur h) (mem-left w.done (mem-right (back ms n (left - 1) (at ms (n + n + n + cur))) (here refl)))
+  module _ (todo rest : List ℕ) (cur : ℕ) (step : todo ≡ rest ++ (cur ∷ [])) where
+    -- the id that comes next is one of the list
+    pub walk_next : (P : List ℕ → Type 0) → Walk ms n r todo P → Mem cur (class_ids ms n r)
+    walk_next P w = rw (w.whole, step) (mem-left w.done (mem-right rest (here refl)))
 
-  pub walk_more : (P Q : List ℕ → Type 0) (left cur link : ℕ) → 0 < left → link ≡ at ms (n + n + n + cur) → ((d : List ℕ) → P d → Q (cur ∷ d)) → Walk ms n r left cur P
-      → Walk ms n r (left - 1) link Q
-  walk_more P Q left cur link h e f w = record {
-    done = cur ∷ w.done;
-    whole = w.whole ∙ rw (back_step ms n left cur h, e) (append_assoc (back ms n (left - 1) (at ms (n + n + n + cur))) (cur ∷ []) w.done);
-    kept = f w.done w.kept;
-  }
+    pub walk_more : (P Q : List ℕ → Type 0) → ((d : List ℕ) → P d → Q (cur ∷ d)) → Walk ms n r todo P → Walk ms n r rest Q
+    walk_more P Q f w = record { done = cur ∷ w.done; whole = w.whole ∙ rw step (append_assoc rest (cur ∷ []) w.done); kept = f w.done w.kept }
 
-  pub walk_end : (P : List ℕ → Type 0) (left cur : ℕ) → left ≡ 0 → Walk ms n r left cur P → P (class_ids ms n r)
-  unfolding back
-  walk_end P left cur e w = let q : class_ids ms n r ≡ w.done = rw e at w.whole in subst P (sym q) w.kept
+    -- what a walk over a class that is fine meets is an id, whatever it keeps
+    pub walk_low : (rs : List ℕ) (m N : ℕ) (P : List ℕ → Type 0) → Fine ms rs n m N r → Walk ms n r todo P → cur < N
+    walk_low rs m N P f w = (f.all cur (walk_next P w)).0
 
--- what a walk over a class that is fine meets is an id, whatever it keeps
-pub walk_low : (ms rs : List ℕ) (n m N r : ℕ) (P : List ℕ → Type 0) (left cur : ℕ) → 0 < left → Fine ms rs n m N r → Walk ms n r left cur P → cur < N
-walk_low ms rs n m N r P left cur h f w = (f.all cur (walk_next ms n r P left cur h w)).0
+  pub walk_end : (P : List ℕ → Type 0) (todo : List ℕ) → todo ≡ [] → Walk ms n r todo P → P (class_ids ms n r)
+  walk_end P todo e w = let q : class_ids ms n r ≡ w.done = rw e at w.whole in subst P (sym q) w.kept
 
 -- ---- on words that hold lists
 

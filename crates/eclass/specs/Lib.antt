@@ -2,5 +2,6 @@ pub mod ClassWalk
 pub mod ClassCount
 pub mod ClassHeld
 pub mod Checks
+pub mod Going
 pub mod Ops
 pub mod Lists

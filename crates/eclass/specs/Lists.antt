@@ -1,18 +1,17 @@
 -- The list `classes`, on any words: each id whose list has members gives a piece, its number, how many members there are, and their nodes in words. The nodes are written
 -- from the last to the first, since a list is read backwards. On words that hold a clean graph the list is the graph's.
 -- Assumes nothing.
-use Rattle.std.specs.Prelude.{true, ◌≡◌, ◌*◌, ◌+◌, ◌-◌, ◌<◌, ◌≤◌, ℕ, set}
+use Rattle.std.specs.Prelude.{true, ◌≡◌, ◌*◌, ◌+◌, ◌<◌, ◌≤◌, ℕ, set}
 use mathlib.Core.List.{List, [], ◌++◌, ◌∷◌, map, map-append}
 use Rattle.std.proofs.Common.{◌∙◌, sym, add-one, arith, length-append}
 use Rattle.std.proofs.Math.Path.{ap, refl}
 use Rattle.std.proofs.Math.Decide.{dec_lt}
 use Rattle.std.proofs.Math.ListN.{length}
-use Rattle.std.proofs.Math.Seq.{length-sets, sets}
+use Rattle.std.proofs.Math.Seq.{sets}
 use Rattle.lists.specs.Members.{Mem}
 use Rattle.lists.specs.Reads.{at}
 use Rattle.lists.specs.Sets.{sets_front}
 use Rattle.lists.specs.Tests.{when, when_no, when_yes}
-use Rattle.language.specs.Struct.{node_of}
 use Rattle.language.specs.Term.{places, spell, words}
 use Rattle.steps.specs.Classes.{class_roots, class_words, classes}
 use Rattle.steps.specs.Graph.{Graph}
@@ -20,13 +19,10 @@ use Rattle.closure.specs.Listed.{roots_from}
 use Rattle.holds.specs.Holds.{HoldsAt}
 use Rattle.layout.specs.View.{View, view}
 use Rattle.layout.specs.declared.Head.{Head}
-use Rattle.rows.specs.Promise.{Key}
 use Rattle.rows.specs.Read.{key_read}
-use Rattle.rows.specs.declared.Fetched.{Fetched}
 use Rattle.spelling.specs.Listed.{length_spell}
-use Rattle.spelling.specs.Puts.{Puts}
 use Rattle.eclass.specs.ClassHeld.{nodes_counted, nodes_read, roots_listed}
-use Rattle.eclass.specs.ClassWalk.{Walk, back, back_step, class_ids, len_of, walk_end, walk_more, walk_start}
+use Rattle.eclass.specs.ClassWalk.{Walk, class_ids, length_back, len_of, walk_end, walk_more, walk_start}
 use Rattle.spelling.specs.Pieces.{Wrote, flat_same, pieces, pieces_flat, wrote, wrote_none}
 
 -- ---- the model
@@ -82,9 +78,6 @@ pub record IdWords (rs : List ℕ) (n m x r : ℕ) : Type 0 where
   pub exact : r ≡ length (words (key_read rs n m x))
   pub few : r ≤ 3 + places
 
-pub id_words : (rs : List ℕ) (n m x r : ℕ) (f : Fetched) → Key rs n m x f → (r ≡ length (words (node_of f.node))) × (r ≡ 3 + f.node.count) → IdWords rs n m x r
-id_words rs n m x r f k e = record { exact = rw (← k.exact) e.0; few = omega (arith, e.1, k.few) }
-
 -- ---- the nodes of a class measured
 
 pub record Measuring (rs : List ℕ) (n m w : ℕ) (d : List ℕ) : Type 0 where
@@ -99,19 +92,24 @@ abbrev pub ClassLongIn : Head → List ℕ → ℕ → ℕ → Type 0
 ClassLongIn h ws r w = ClassLong (view h.n h.m ws).members (view h.n h.m ws).rows h.n h.m r w
 
 module _ (ms rs : List ℕ) (n m r : ℕ) where
-  pub long_start : (k cur : ℕ) → k ≡ len_of ms n r → cur ≡ at ms r → Walk ms n r k cur (Measuring rs n m 0)
-  long_start k cur ek ec = walk_start ms n r (Measuring rs n m 0) k cur ek ec (record { exact = rw (spelled_none rs n m) refl })
+  pub long_start : (todo : List ℕ) → todo ≡ class_ids ms n r → Walk ms n r todo (Measuring rs n m 0)
+  long_start todo e = walk_start ms n r (Measuring rs n m 0) todo e (record { exact = rw (spelled_none rs n m) refl })
 
-  pub long_next : (left cur link w x : ℕ) → 0 < left → link ≡ at ms (n + n + n + cur) → IdWords rs n m cur x → Walk ms n r left cur (Measuring rs n m w)
-      → Walk ms n r (left - 1) link (Measuring rs n m (w + x))
-  long_next left cur link w x h e i k =
-      walk_more ms n r (Measuring rs n m w) (Measuring rs n m (w + x)) left cur link h e (λ d f. record { exact = go d f.exact }) k
+  pub long_next : (todo rest : List ℕ) (cur w x : ℕ) → todo ≡ rest ++ (cur ∷ []) → IdWords rs n m cur x → Walk ms n r todo (Measuring rs n m w) → Walk ms n r rest (Measuring rs n m (w + x))
+  long_next todo rest cur w x step i k = walk_more ms n r todo rest cur step (Measuring rs n m w) (Measuring rs n m (w + x)) (λ d f. record { exact = go d f.exact }) k
     where
       go : (d : List ℕ) → w ≡ length (spelled rs n m d) → w + x ≡ length (spelled rs n m (cur ∷ d))
       go d f = rw (spelled_front rs n m cur d) (omega (arith, i.exact, length-append (words (key_read rs n m cur)) (spelled rs n m d)))
 
-  pub long_end : (left cur w : ℕ) → left ≡ 0 → w + 11 * left ≤ 11 * len_of ms n r → Walk ms n r left cur (Measuring rs n m w) → ClassLong ms rs n m r w
-  long_end left cur w e f k = record { exact = (walk_end ms n r (Measuring rs n m w) left cur e k).exact; few = omega arith }
+  -- no id takes more than 11 words
+  pub long_more : (todo rest : List ℕ) (cur w x k : ℕ) → todo ≡ rest ++ (cur ∷ []) → IdWords rs n m cur x → w + 11 * length todo ≤ k → w + x + 11 * length rest ≤ k
+  long_more todo rest cur w x k step i h = omega (arith, i.few, ap length step, length-append rest (cur ∷ []))
+
+  pub long_room : (todo : List ℕ) → todo ≡ class_ids ms n r → 11 * length todo ≡ 11 * len_of ms n r
+  long_room todo e = ap (λ (k : ℕ). 11 * k) (ap length e ∙ length_back ms n (len_of ms n r) (at ms r))
+
+  pub long_end : (todo : List ℕ) (w : ℕ) → todo ≡ [] → w + 11 * length todo ≤ 11 * len_of ms n r → Walk ms n r todo (Measuring rs n m w) → ClassLong ms rs n m r w
+  long_end todo w e f k = record { exact = (walk_end ms n r (Measuring rs n m w) todo e k).exact; few = omega arith }
 
 -- ---- the nodes of a class written, from the last to the first
 
@@ -126,52 +124,38 @@ pub record Before (rs : List ℕ) (n m x end : ℕ) (out : List ℕ) (e : ℕ) (
   pub start : e + length (words (key_read rs n m x)) ≡ end
   pub size : length out' ≡ length out
 
-module _ (rs : List ℕ) (n m x end k : ℕ) (f : Fetched) (K : Key rs n m x f) (e : (k ≡ length (words (node_of f.node))) × (k ≡ 3 + f.node.count))
-    (low : length (words (key_read rs n m x)) ≤ end) where
-  pub before_low : k ≤ end
-  before_low = let q : k ≡ length (words (key_read rs n m x)) = rw (← K.exact) e.0 in omega arith
-
-  pub before_room : (len : ℕ) → end ≤ len → (end - k) + length (words (node_of f.node)) ≤ len
-  before_room len h = omega (arith, before_low, e.0)
-
-  pub before_put : (z : ℕ) (out out' : List ℕ) → Puts out (end - k) f.node z out' → Before rs n m x end out (end - k) out'
-  before_put z out out' d =
-      let q : k ≡ length (words (key_read rs n m x)) = rw (← K.exact) e.0 in
-      record { exact = d.exact ∙ rw K.exact refl; start = omega (arith, before_low); size = d.size }
-
 -- what `put_members` promises: the nodes of the class of r stand from p on
 pub record Placed (ms rs : List ℕ) (n m r : ℕ) (out : List ℕ) (p : ℕ) (out' : List ℕ) : Type 0 where
   pub exact : out' ≡ sets out p (spelled rs n m (class_ids ms n r))
   pub size : length out' ≡ length out
 
 -- how far the start of what is written lies behind p: as far as the words of those that are to come need
-pub record Ahead (ms rs : List ℕ) (n m p left cur e : ℕ) : Type 0 where
-  pub far : e ≡ p + length (spelled rs n m (back ms n left cur))
+pub record Ahead (rs : List ℕ) (n m p : ℕ) (todo : List ℕ) (e : ℕ) : Type 0 where
+  pub far : e ≡ p + length (spelled rs n m todo)
 
 module _ (ms rs : List ℕ) (n m r : ℕ) (out : List ℕ) (p end : ℕ) where
-  pub place_start : (k cur : ℕ) → k ≡ len_of ms n r → cur ≡ at ms r → Walk ms n r k cur (Placing rs n m out out end end)
-  place_start k cur ek ec =
-      walk_start ms n r (Placing rs n m out out end end) k cur ek ec (record { exact = rw (spelled_none rs n m) refl; ends = rw (spelled_none rs n m) (omega arith) })
+  pub place_start : (todo : List ℕ) → todo ≡ class_ids ms n r → Walk ms n r todo (Placing rs n m out out end end)
+  place_start todo e = walk_start ms n r (Placing rs n m out out end end) todo e (record { exact = rw (spelled_none rs n m) refl; ends = rw (spelled_none rs n m) (omega arith) })
 
-  pub ahead_start : (w k cur : ℕ) → k ≡ len_of ms n r → cur ≡ at ms r → ClassLong ms rs n m r w → end ≡ p + w → Ahead ms rs n m p k cur end
-  ahead_start w k cur ek ec l e = record { far = rw (ek, ec) (omega (arith, l.exact)) }
+  pub ahead_start : (w : ℕ) (todo : List ℕ) → todo ≡ class_ids ms n r → ClassLong ms rs n m r w → end ≡ p + w → Ahead rs n m p todo end
+  ahead_start w todo q l e = record { far = rw q (omega (arith, l.exact)) }
 
-  module _ (left cur e : ℕ) (some : 0 < left) (a : Ahead ms rs n m p left cur e) where
-    split : e ≡ p + (length (spelled rs n m (back ms n (left - 1) (at ms (n + n + n + cur)))) + length (words (key_read rs n m cur)))
-    split = a.far ∙ rw (back_step ms n left cur some, spelled_more rs n m (back ms n (left - 1) (at ms (n + n + n + cur))) cur) refl
+  module _ (todo rest : List ℕ) (cur e : ℕ) (step : todo ≡ rest ++ (cur ∷ [])) (a : Ahead rs n m p todo e) where
+    split : e ≡ p + (length (spelled rs n m rest) + length (words (key_read rs n m cur)))
+    split = a.far ∙ rw (step, spelled_more rs n m rest cur) refl
 
     -- the words of cur fit in front
     pub ahead_room : length (words (key_read rs n m cur)) ≤ e
     ahead_room = omega (arith, split)
 
-    module _ (mid next : List ℕ) (e' link : ℕ) (d : Before rs n m cur e mid e' next) (q : link ≡ at ms (n + n + n + cur)) where
-      pub ahead_more : Ahead ms rs n m p (left - 1) link e'
-      ahead_more = record { far = rw q (omega (arith, split, d.start)) }
+    module _ (mid mid1 : List ℕ) (e' : ℕ) (d : Before rs n m cur e mid e' mid1) where
+      pub ahead_more : Ahead rs n m p rest e'
+      ahead_more = record { far = omega (arith, split, d.start) }
 
-      pub place_more : end ≤ length out → Walk ms n r left cur (Placing rs n m out mid e end) → Walk ms n r (left - 1) link (Placing rs n m out next e' end)
-      place_more fits w = walk_more ms n r (Placing rs n m out mid e end) (Placing rs n m out next e' end) left cur link some q go w
+      pub place_more : end ≤ length out → Walk ms n r todo (Placing rs n m out mid e end) → Walk ms n r rest (Placing rs n m out mid1 e' end)
+      place_more fits w = walk_more ms n r todo rest cur step (Placing rs n m out mid e end) (Placing rs n m out mid1 e' end) go w
         where
-          go : (l : List ℕ) → Placing rs n m out mid e end l → Placing rs n m out next e' end (cur ∷ l)
+          go : (l : List ℕ) → Placing rs n m out mid e end l → Placing rs n m out mid1 e' end (cur ∷ l)
           go l P = record {
             exact =
                 d.exact
@@ -179,15 +163,6 @@ module _ (ms rs : List ℕ) (n m r : ℕ) (out : List ℕ) (p end : ℕ) where
                 (sets_front (words (key_read rs n m cur)) (spelled rs n m l) out e' e (omega (arith, d.start)) (omega (arith, P.ends)));
             ends = rw (spelled_front rs n m cur l) (omega (arith, P.ends, d.start, length-append (words (key_read rs n m cur)) (spelled rs n m l)));
           }
-
-  pub place_end : (left cur e : ℕ) (mid : List ℕ) → left ≡ 0 → Ahead ms rs n m p left cur e → Walk ms n r left cur (Placing rs n m out mid e end) → Placed ms rs n m r out p mid
-  unfolding back
-  place_end left cur e mid z a w =
-      let P = walk_end ms n r (Placing rs n m out mid e end) left cur z w in
-      let b : e ≡ p + length (spelled rs n m []) = rw z at a.far in
-      let s : e ≡ p = b ∙ rw (spelled_none rs n m) (omega arith) in
-      let x : mid ≡ sets out p (spelled rs n m (class_ids ms n r)) = rw s at P.exact in
-      record { exact = x; size = ap length x ∙ length-sets out p (spelled rs n m (class_ids ms n r)) }
 
 -- ---- the piece of a class
 

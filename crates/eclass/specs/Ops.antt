@@ -1,14 +1,14 @@
 -- The classes that have a node with a given operator, on any words: each id gives itself as a piece of the list, or nothing. On words that hold a clean graph the list is
 -- the graph's.
 -- Assumes nothing.
-use Rattle.std.specs.Prelude.{Bool, false, true, ◌≢◌, ◌⊎◌, ◌≡◌, refl, ◌+◌, ◌-◌, ◌<◌, ◌≤◌, ℕ, length, set}
-use mathlib.Core.List.{List, [], ◌∷◌}
-use Rattle.std.proofs.Common.{inl, inr, ◌∙◌, sym, arith}
+use Rattle.std.specs.Prelude.{Bool, false, true, ◌⊎◌, ◌≡◌, refl, ◌+◌, ◌<◌, ◌≤◌, ℕ, eqb, length, set}
+use Rattle.std.specs.Int.{from_bool}
+use mathlib.Core.List.{List, [], ◌++◌, ◌∷◌}
+use Rattle.std.proofs.Common.{eq-eqb, ne_eqb, inl, inr, ◌∙◌, sym, arith}
 use Rattle.std.proofs.Math.Path.{ap}
 use Rattle.std.proofs.Math.Decide.{ℕ_discrete}
 use Rattle.lists.specs.Keeps.{OneOf, any}
 use Rattle.lists.specs.Members.{Mem, mem-cases, mem-map, mem-nil, mem-of-map}
-use Rattle.lists.specs.Reads.{at}
 use Rattle.lists.specs.Tests.{Says, says_no, says_yes, when, when_no, when_yes}
 use Rattle.language.specs.Struct.{node_of}
 use Rattle.language.specs.Term.{Term}
@@ -17,11 +17,11 @@ use Rattle.steps.specs.Graph.{Graph}
 use Rattle.holds.specs.Holds.{HoldsAt}
 use Rattle.layout.specs.View.{View, view}
 use Rattle.layout.specs.declared.Head.{Head}
-use Rattle.rows.specs.Promise.{Key}
+use Rattle.language.specs.declared.Node.{Node}
+use Rattle.rows.specs.Promise.{IsNode}
 use Rattle.rows.specs.Read.{key_read}
-use Rattle.rows.specs.declared.Fetched.{Fetched}
 use Rattle.eclass.specs.ClassHeld.{op_listed}
-use Rattle.eclass.specs.ClassWalk.{Walk, class_ids, class_read, len_of, walk_end, walk_more, walk_next, walk_start}
+use Rattle.eclass.specs.ClassWalk.{Walk, class_ids, class_read, walk_end, walk_more, walk_next, walk_start}
 use Rattle.spelling.specs.Pieces.{Wrote, pieces, pieces_filter, wrote, wrote_none}
 
 -- ---- the model
@@ -55,16 +55,17 @@ ops_are {h = h} {v = v} H c o =
 
 -- ---- one id, as the code compares it
 
-module _ (rs : List ℕ) (n m x o : ℕ) (f : Fetched) (k : Key rs n m x f) where
-  op_of : f.node.op.0 ≡ (key_read rs n m x).op
+module _ (rs : List ℕ) (n m x o : ℕ) (y : Node) (k : IsNode y (key_read rs n m x)) where
+  op_of : y.op.0 ≡ (key_read rs n m x).op
   unfolding node_of
   op_of = ap (λ (t : Term). t.op) k.exact
 
-  pub op_same : f.node.op.0 ≡ o → Says true (OpIs rs n m o x)
-  op_same e = says_yes (record { same = sym op_of ∙ e })
-
-  pub op_other : f.node.op.0 ≢ o → Says false (OpIs rs n m o x)
-  op_other e = says_no (λ s. e (op_of ∙ s.same))
+  pub op_read : Says (eqb y.op.0 o) (OpIs rs n m o x)
+  op_read = go (ℕ_discrete y.op.0 o)
+    where
+      go : Dec (y.op.0 ≡ o) → Says (eqb y.op.0 o) (OpIs rs n m o x)
+      go (yes e) = rw (eq-eqb _ _ e) (says_yes (record { same = sym op_of ∙ e }))
+      go (no n) = rw (ne_eqb _ _ n) (says_no (λ s. n (op_of ∙ s.same)))
 
 -- ---- one class: none of those that were passed has it
 
@@ -72,26 +73,25 @@ pub record NoneHas (rs : List ℕ) (n m o : ℕ) (d : List ℕ) : Type 0 where
   pub none : (x : ℕ) → Mem x d → OpIs rs n m o x → ⊥
 
 module _ (ms rs : List ℕ) (n m o r : ℕ) where
-  pub has_start : (k cur : ℕ) → k ≡ len_of ms n r → cur ≡ at ms r → Walk ms n r k cur (NoneHas rs n m o)
-  has_start k cur ek ec = walk_start ms n r (NoneHas rs n m o) k cur ek ec (record { none = λ x m. absurd (mem-nil m) })
+  pub has_start : (todo : List ℕ) → todo ≡ class_ids ms n r → Walk ms n r todo (NoneHas rs n m o)
+  has_start todo e = walk_start ms n r (NoneHas rs n m o) todo e (record { none = λ x m. absurd (mem-nil m) })
 
-  pub has_more : (left cur link : ℕ) (b : Bool) → 0 < left → link ≡ at ms (n + n + n + cur) → Says b (OpIs rs n m o cur) → b ≡ false → Walk ms n r left cur (NoneHas rs n m o)
-      → Walk ms n r (left - 1) link (NoneHas rs n m o)
-  has_more left cur link b h e s t w = walk_more ms n r (NoneHas rs n m o) (NoneHas rs n m o) left cur link h e (λ d f. record { none = λ x k. go d f x (mem-cases k) }) w
-    where
-      go : (d : List ℕ) → NoneHas rs n m o d → (x : ℕ) → (x ≡ cur) ⊎ Mem x d → OpIs rs n m o x → ⊥
-      go d f x (inl q) p = s.fails t (rw q at p)
-      go d f x (inr k) p = f.none x k p
+  module _ (todo rest : List ℕ) (cur : ℕ) (step : todo ≡ rest ++ (cur ∷ [])) (b : Bool) (s : Says b (OpIs rs n m o cur)) (w : Walk ms n r todo (NoneHas rs n m o)) where
+    pub has_more : b ≡ false → Walk ms n r rest (NoneHas rs n m o)
+    has_more t = walk_more ms n r todo rest cur step (NoneHas rs n m o) (NoneHas rs n m o) (λ d f. record { none = λ x k. go d f x (mem-cases k) }) w
+      where
+        go : (d : List ℕ) → NoneHas rs n m o d → (x : ℕ) → (x ≡ cur) ⊎ Mem x d → OpIs rs n m o x → ⊥
+        go d f x (inl q) p = s.fails t (rw q at p)
+        go d f x (inr k) p = f.none x k p
 
-  pub has_found : (left cur : ℕ) (b : Bool) → 0 < left → Says b (OpIs rs n m o cur) → b ≡ true → Walk ms n r left cur (NoneHas rs n m o) → Says true (HasOp ms rs n m o r)
-  has_found left cur b h s t w =
-      says_yes (record { node = (key_read rs n m cur, mem-map (key_read rs n m) (walk_next ms n r (NoneHas rs n m o) left cur h w), (s.holds t).same) })
+    pub has_found : b ≡ true → Says true (HasOp ms rs n m o r)
+    has_found t = says_yes (record { node = (key_read rs n m cur, mem-map (key_read rs n m) (walk_next ms n r todo rest cur step (NoneHas rs n m o) w), (s.holds t).same) })
 
-  pub has_end : (left cur : ℕ) → left ≡ 0 → Walk ms n r left cur (NoneHas rs n m o) → Says false (HasOp ms rs n m o r)
-  has_end left cur e w = says_no (λ h. go h.node.0 (mem-of-map (key_read rs n m) (class_ids ms n r) h.node.1) h.node.2)
+  pub has_end : (todo : List ℕ) → todo ≡ [] → Walk ms n r todo (NoneHas rs n m o) → Says false (HasOp ms rs n m o r)
+  has_end todo e w = says_no (λ h. go h.node.0 (mem-of-map (key_read rs n m) (class_ids ms n r) h.node.1) h.node.2)
     where
       f : NoneHas rs n m o (class_ids ms n r)
-      f = walk_end ms n r (NoneHas rs n m o) left cur e w
+      f = walk_end ms n r (NoneHas rs n m o) todo e w
 
       go : (t : Term) → (x : ℕ) × Mem x (class_ids ms n r) × (key_read rs n m x ≡ t) → t.op ≡ o → ⊥
       go t k q = f.none k.0 k.1 (record { same = ap (λ (z : Term). z.op) k.2 ∙ q })
@@ -107,11 +107,8 @@ module _ (ms rs : List ℕ) (n m o r : ℕ) where
   piece_no h = when_no (any (λ (x : Term). ℕ_discrete x.op o) (class_read ms rs n m r)) (r ∷ []) [] (λ x. h (record { node = x }))
 
   module _ (b : Bool) (s : Says b (HasOp ms rs n m o r)) where
-    pub op_one : b ≡ true → 1 ≡ length (op_piece ms rs n m o r)
+    op_one : b ≡ true → 1 ≡ length (op_piece ms rs n m o r)
     op_one e = rw (piece_yes (s.holds e)) refl
-
-    pub op_zero : b ≡ false → 0 ≡ length (op_piece ms rs n m o r)
-    op_zero e = rw (piece_no (s.fails e)) refl
 
     pub op_room : b ≡ true → (len p : ℕ) → p + length (op_piece ms rs n m o r) ≤ len → p < len
     op_room e len p h = omega (arith, op_one e)
@@ -121,3 +118,8 @@ module _ (ms rs : List ℕ) (n m o r : ℕ) where
 
     pub op_skip : b ≡ false → (out : List ℕ) (p : ℕ) → Wrote out p (op_piece ms rs n m o r) p out
     op_skip e out p = rw (piece_no (s.fails e)) (wrote_none out p)
+
+  -- its length, as a number of the answer
+  pub op_count : (b : Bool) (k : ℕ) → Says b (HasOp ms rs n m o r) → k ≡ from_bool b → k ≡ length (op_piece ms rs n m o r)
+  op_count true k s e = e ∙ op_one true s refl
+  op_count false k s e = e ∙ rw (piece_no (s.fails refl)) refl

@@ -15,34 +15,25 @@ ghost use Rattle.layout.specs.Head.{HeadOk};
 ghost use Rattle.layout.specs.View.{view};
 ghost use Rattle.eclass.specs.Checks.{FineId, FineIn, Totals, UnbrokenIn};
 
+use broken::Broken;
 use language::Id;
 use layout::Head;
 
-// How many nodes there are in all classes, or words that no calls could have produced.
-#[derive(Clone, Copy)]
-pub enum Total {
-    TotalIs(usize),
-    TotalBroken,
-}
-
 // How many members all lists have: one for each node of a class.
-pub fn count_nodes(ws: &[u32], h: Head) -> Total
+pub fn count_nodes(ws: &[u32], h: Head) -> Result<usize, Broken>
     requires { HeadOk (length ws.now) h }
     ensures { Totals (view h.n h.m ws.now).members h.n h.ids result }
 {
-    let ids = h.ids;
-    let mut total: usize = 0;
-    let mut i: usize = 0;
-    while i < ids {
+    let mut total = 0;
+    for i in 0..h.ids {
         let k = parts::on_members::len(ws, h, Id(i as u32));
         // each id stands in one list at most
-        if ids - total < k {
-            return Total::TotalBroken;
+        if h.ids - total < k {
+            return Err(Broken);
         }
         total += k;
-        i += 1;
     }
-    Total::TotalIs(total)
+    Ok(total)
 }
 
 // Whether a walk may meet this: an id, with a row that is within bounds.
@@ -53,28 +44,23 @@ fn fine_id(ws: &[u32], h: Head, id: Id) -> bool
     if h.ids <= id.0 as usize {
         return false;
     }
-    let f = parts::on_rows::key(ws, h, id);
-    let found = f.out;
-    match found {
-        rows::Fetch::FetchBroken => false,
-        rows::Fetch::FetchDone => true,
-    }
+    parts::on_rows::key(ws, h, id).is_ok()
 }
 
 // Whether the walk over the list of an id is unbroken.
+// `Members` asks for a walk that is unbroken, so this one is made step by step.
 fn check_class(ws: &[u32], h: Head, r: Id) -> bool
     requires head_ok { HeadOk (length ws.now) h }
     requires r_lt_ids { r.0 < h.ids }
     ensures { Says result (FineIn h ws.now r.0) }
 {
-    let mut left = parts::on_members::len(ws, h, r);
+    let size = parts::on_members::len(ws, h, r);
     let mut id = parts::on_members::last(ws, h, r);
-    while 0 < left {
+    for passed in 0..size {
         if !fine_id(ws, h, id) {
             return false;
         }
         id = parts::on_members::link(ws, h, id);
-        left -= 1;
     }
     true
 }
@@ -84,21 +70,20 @@ pub fn check(ws: &[u32], h: Head) -> bool
     requires { HeadOk (length ws.now) h }
     ensures { Says result (UnbrokenIn h ws.now) }
 {
-    let Total::TotalIs(_) = count_nodes(ws, h) else {
+    if count_nodes(ws, h).is_err() {
         return false;
-    };
-    let ids = h.ids;
-    let mut i: usize = 0;
-    while i < ids {
+    }
+    for i in 0..h.ids {
         if !check_class(ws, h, Id(i as u32)) {
             return false;
         }
-        i += 1;
     }
     true
 }
 
+mod members;
 pub mod ops;
+mod pieces;
 
 pub use ops::{measure_ops, put_ops};
 

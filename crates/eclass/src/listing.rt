@@ -8,6 +8,9 @@ ghost use Rattle.eclass.specs.Checks.{FineIn, UnbrokenIn};
 ghost use Rattle.eclass.specs.Lists.{Before, ClassLongIn, IdWords, Placed, class_piece_in, classes_in};
 ghost use Rattle.spelling.specs.Pieces.{Wrote};
 
+use crate::members::Members;
+use crate::pieces;
+use crate::pieces::Piece;
 use language::Id;
 use layout::Head;
 
@@ -17,8 +20,7 @@ fn id_words(ws: &[u32], h: Head, id: Id) -> usize
     requires id_lt_n { id.0 < h.n }
     ensures { IdWords (view h.n h.m ws.now).rows h.n h.m id.0 result }
 {
-    let f = parts::on_rows::key(ws, h, id);
-    spelling::node_length(f.node)
+    spelling::node_length(parts::on_rows::key_or_leaf(ws, h, id))
 }
 
 // How many words the nodes of a class take.
@@ -28,43 +30,9 @@ fn class_words(ws: &[u32], h: Head, r: Id) -> usize
     requires fine_in { FineIn h ws.now r.0 }
     ensures { ClassLongIn h ws.now r.0 result × (result ≤ 11 * 2 ^ 32) }
 {
-    let mut left = parts::on_members::len(ws, h, r);
-    let mut id = parts::on_members::last(ws, h, r);
-    let mut total: usize = 0;
-    while 0 < left {
+    let mut total = 0;
+    for id in Members::of_class(ws, h, r) {
         total += id_words(ws, h, id);
-        id = parts::on_members::link(ws, h, id);
-        left -= 1;
-    }
-    total
-}
-
-// How many words a class takes in the list; an id that is no root takes none.
-fn piece_words(ws: &[u32], h: Head, r: Id) -> usize
-    requires head_ok { HeadOk (length ws.now) h }
-    requires r_lt_ids { r.0 < h.ids }
-    requires fine_in { FineIn h ws.now r.0 }
-    ensures { (result ≡ length (class_piece_in h ws.now r.0)) × (result ≤ 2 + 11 * 2 ^ 32) }
-{
-    let k = parts::on_members::len(ws, h, r);
-    if k == 0 {
-        return 0;
-    }
-    2 + class_words(ws, h, r)
-}
-
-// How many words all classes take.
-pub fn measure_classes(ws: &[u32], h: Head) -> usize
-    requires head_ok { HeadOk (length ws.now) h }
-    requires unbroken_in { UnbrokenIn h ws.now }
-    ensures { result ≡ length (classes_in h ws.now) }
-{
-    let ids = h.ids;
-    let mut total: usize = 0;
-    let mut i: usize = 0;
-    while i < ids {
-        total += piece_words(ws, h, Id(i as u32));
-        i += 1;
     }
     total
 }
@@ -76,10 +44,9 @@ fn put_before(ws: &[u32], h: Head, out: &mut [u32], end: usize, id: Id) -> usize
     requires id_len_bound { (length (words (key_read (view h.n h.m ws.now).rows h.n h.m id.0)) ≤ end) × (end ≤ length out.old) }
     ensures { Before (view h.n h.m ws.now).rows h.n h.m id.0 end out.old result out.new }
 {
-    let f = parts::on_rows::key(ws, h, id);
-    let k = spelling::node_length(f.node);
-    let start = end - k;
-    spelling::put_node(out, start, f.node);
+    let node = parts::on_rows::key_or_leaf(ws, h, id);
+    let start = end - spelling::node_length(node);
+    spelling::put_node(out, start, node);
     start
 }
 
@@ -92,34 +59,47 @@ fn put_members(ws: &[u32], h: Head, out: &mut [u32], place: usize, r: Id, w: usi
     requires w_in_bounds { place + w ≤ length out.old }
     ensures { Placed (view h.n h.m ws.now).members (view h.n h.m ws.now).rows h.n h.m r.0 out.old place out.new }
 {
-    let mut left = parts::on_members::len(ws, h, r);
-    let mut id = parts::on_members::last(ws, h, r);
     let mut start = place + w;
-    while 0 < left {
+    for id in Members::of_class(ws, h, r) {
         start = put_before(ws, h, out, start, id);
-        id = parts::on_members::link(ws, h, id);
-        left -= 1;
     }
 }
 
-// A class from a place on, if the id is a root; the place behind it.
-fn put_class(ws: &[u32], h: Head, out: &mut [u32], place: usize, r: Id) -> usize
-    requires head_ok { HeadOk (length ws.now) h }
-    requires r_lt_ids { r.0 < h.ids }
-    requires fine_in { FineIn h ws.now r.0 }
-    requires r_in_bounds { place + length (class_piece_in h ws.now r.0) ≤ length out.old }
-    ensures { Wrote out.old place (class_piece_in h ws.now r.0) result out.new }
-{
-    let k = parts::on_members::len(ws, h, r);
-    if k == 0 {
-        return place;
+// The list of all classes: a root's piece is itself, its number of nodes and these nodes; an id that is no root has none.
+#[derive(Clone, Copy)]
+struct Whole;
+
+impl Piece for Whole {
+    ghost piece = { λ s h ws. class_piece_in h ws };
+
+    fn words(&self, ws: &[u32], h: Head, r: Id) -> usize {
+        if parts::on_members::len(ws, h, r) == 0 {
+            return 0;
+        }
+        2 + class_words(ws, h, r)
     }
-    let w = class_words(ws, h, r);
-    put_members(ws, h, out, place + 2, r, w);
-    let count = k as u32;
-    out[place] = r.0;
-    out[place + 1] = count;
-    place + 2 + w
+
+    fn put(&self, ws: &[u32], h: Head, out: &mut [u32], place: usize, r: Id) -> usize {
+        let k = parts::on_members::len(ws, h, r);
+        if k == 0 {
+            return place;
+        }
+        let w = class_words(ws, h, r);
+        put_members(ws, h, out, place + 2, r, w);
+        let count = k as u32;
+        out[place] = r.0;
+        out[place + 1] = count;
+        place + 2 + w
+    }
+}
+
+// How many words all classes take.
+pub fn measure_classes(ws: &[u32], h: Head) -> usize
+    requires head_ok { HeadOk (length ws.now) h }
+    requires unbroken_in { UnbrokenIn h ws.now }
+    ensures { result ≡ length (classes_in h ws.now) }
+{
+    pieces::measure(&Whole, ws, h)
 }
 
 // All classes, in ascending root id, from the start of a slice that has room for them; the place behind them.
@@ -129,12 +109,5 @@ pub fn put_classes(ws: &[u32], h: Head, out: &mut [u32]) -> usize
     requires ws_in_bounds { length (classes_in h ws.now) ≤ length out.old }
     ensures { Wrote out.old 0 (classes_in h ws.now) result out.new }
 {
-    let ids = h.ids;
-    let mut at: usize = 0;
-    let mut i: usize = 0;
-    while i < ids {
-        at = put_class(ws, h, out, at, Id(i as u32));
-        i += 1;
-    }
-    at
+    pieces::put_all(&Whole, ws, h, out)
 }

@@ -2,10 +2,11 @@
 -- has is found, also in a full graph; a node that it has not is added where there is room, and refused by 6, with no word changed, where there is none, and on any words only
 -- there. What is left is 9, which never comes on words that hold a graph.
 -- Assumes nothing.
+use Rattle.std.specs.Prelude.{Err, None, Ok, Result, Some, ◌≢◌, ◌⊎◌, ◌≡◌, ◌<◌, ◌≤◌, ℕ, length, Option}
+use Rattle.broken.specs.declared.Broken.{Broken}
+use Rattle.broken.specs.Words.{broken}
 use mathlib.Core.List.{List, [], ◌∷◌}
-use Rattle.std.specs.Prelude.{◌≢◌, ◌⊎◌, ◌≡◌, ◌<◌, ◌≤◌, ℕ, length}
 use Rattle.std.proofs.Common.{inl, inr, ◌∙◌, ap, sym, arith}
-use Rattle.std.proofs.Math.Option.{Option, none, some}
 use Rattle.std.proofs.Math.Path.{refl, subst}
 use Rattle.lists.specs.Tests.{zero_one}
 use Rattle.language.specs.Struct.{node_of}
@@ -13,21 +14,15 @@ use Rattle.language.specs.Term.{Term, places}
 use Rattle.language.specs.declared.Id.{Id}
 use Rattle.language.specs.declared.Node.{Node}
 use Rattle.steps.specs.Graph.{Graph, ids, root}
-use Rattle.steps.specs.Machine.{Given, add, add_by, add_uncanonical, grow, lookup}
+use Rattle.steps.specs.Machine.{Given as GivenId, add, add_by, add_uncanonical, grow, lookup}
 use Rattle.closure.specs.Facts.{root_more, root_out}
 use Rattle.adding.specs.Says.{Full, Gives, Known, Probes, Room, kept_for}
-use Rattle.adding.specs.declared.Gave.{Gave}
-use Rattle.adding.specs.declared.Gave.TheVariants.{GaveBroken, GaveFull, GaveNew, GaveOld}
 use Rattle.adding.specs.declared.Probed.{Probed}
-use Rattle.adding.specs.declared.Seen.TheVariants.{SeenAt, SeenBroken, SeenNone}
-use Rattle.unionfind.specs.declared.Found.{Found}
-use Rattle.egraph.specs.Answers.{Answer, Else, Good, SameLimits, Unless3, add_says, head_of, ids_is, limits_stay, limits_written, lookup_says, never, nine, no_by, number_of, ok_still, pass, past, past_rest, scratch_of, scratch_still, spare_noted, spare_of, spare_stay, stop, yes_with}
-use Rattle.egraph.specs.declared.AddAnswer.{AddAnswer}
-use Rattle.egraph.specs.declared.AddAnswer.TheVariants.{AddId, AddNot}
-use Rattle.egraph.specs.declared.Gate.{Gate}
-use Rattle.egraph.specs.declared.Gate.TheVariants.{GateNot, GateTo}
-use Rattle.egraph.specs.declared.LookupAnswer.{LookupAnswer}
-use Rattle.egraph.specs.declared.LookupAnswer.TheVariants.{LookupFound, LookupNone, LookupNot}
+use Rattle.adding.specs.declared.Given.{Given}
+use Rattle.adding.specs.declared.Given.TheVariants.{New, Old}
+use Rattle.adding.specs.declared.GiveError.{GiveError}
+use Rattle.adding.specs.declared.GiveError.TheVariants.{NoRoom as GiveNoRoom, BrokenWords as GiveBroken}
+use Rattle.egraph.specs.Answers.{Answer, Else, Good, SameLimits, Unless3, give_refused, id_says, head_of, ids_is, limits_stay, limits_written, lookup_says, never, nine, no_by, number_of, ok_still, pass, past, past_rest, scratch_of, scratch_still, spare_noted, spare_of, spare_stay, stop, yes_with}
 use Rattle.egraph.specs.declared.Refusal.{Refusal}
 use Rattle.egraph.specs.declared.Refusal.TheVariants.{BadHead, BadLimits, BrokenWords, NoRoom, NotRebuilt, TooFewWords, TooLong, TooManyChildren, UnknownId}
 use Rattle.holds.specs.Holds.{Holds, HoldsAt}
@@ -38,7 +33,6 @@ use Rattle.layout.specs.View.{View, hd, view}
 use Rattle.layout.specs.Written.{Noted, written}
 use Rattle.layout.specs.declared.Head.{Head}
 use Rattle.unionfind.specs.Promise.{Finds}
-use Rattle.unionfind.specs.declared.Found.TheVariants.{FoundLost, FoundRoot}
 
 -- ---- what is refused first
 
@@ -61,12 +55,12 @@ Barred ws x NotRebuilt = ⊥
 Barred ws x TooLong = ⊥
 Barred ws x BrokenWords = ⊥
 
-abbrev pub Gated : List ℕ → Node → Gate → Type 0
-Gated ws x (GateTo h) = HeadIs (length ws) (hd ws) h × (x.count ≤ places) × Known (node_of x) h.ids
-Gated ws x (GateNot q) = Barred ws x q
+abbrev pub Gated : List ℕ → Node → Result Head Refusal → Type 0
+Gated ws x (Ok h) = HeadIs (length ws) (hd ws) h × (x.count ≤ places) × Known (node_of x) h.ids
+Gated ws x (Err q) = Barred ws x q
 
-module _ (ws : List ℕ) (x : Node) (r : Gate) (G : Gated ws x r) where
-  pub gate_head : (h : Head) → r ≡ GateTo h → HeadIs (length ws) (hd ws) h × (x.count ≤ places) × Known (node_of x) h.ids
+module _ (ws : List ℕ) (x : Node) (r : Result Head Refusal) (G : Gated ws x r) where
+  pub gate_head : (h : Head) → r ≡ Ok h → HeadIs (length ws) (hd ws) h × (x.count ≤ places) × Known (node_of x) h.ids
   gate_head h e = subst (Gated ws x) e G
 
   over : places < x.count → x.count ≤ places → ⊥
@@ -74,7 +68,7 @@ module _ (ws : List ℕ) (x : Node) (r : Gate) (G : Gated ws x r) where
 
   module _ (No : ℕ → Type 0) (Next : Type 0) where
     -- refused
-    gate_no : (q : Refusal) → r ≡ GateNot q → No (number_of q) → NodeLadder ws x No Next
+    gate_no : (q : Refusal) → r ≡ Err q → No (number_of q) → NodeLadder ws x No Next
     gate_no q e n = go q (subst (Gated ws x) e G) n
       where
         go : (q : Refusal) → Barred ws x q → No (number_of q) → NodeLadder ws x No Next
@@ -89,7 +83,7 @@ module _ (ws : List ℕ) (x : Node) (r : Gate) (G : Gated ws x r) where
         go BrokenWords b n = absurd b
 
     -- let through
-    gate_on : (h : Head) → r ≡ GateTo h → Next → NodeLadder ws x No Next
+    gate_on : (h : Head) → r ≡ Ok h → Next → NodeLadder ws x No Next
     gate_on h e n =
         let g = gate_head h e in
         let K : Known (node_of x) (head_of ws).ids = subst (Known (node_of x)) (ids_is g.0) g.2 in
@@ -99,131 +93,139 @@ module _ (ws : List ℕ) (x : Node) (r : Gate) (G : Gated ws x r) where
 
 -- the root of an id, or nothing
 abbrev pub found_as : Option ℕ → Answer
-found_as (some i) = yes_with (i ∷ [])
-found_as none = yes_with []
+found_as (Some i) = yes_with (i ∷ [])
+found_as None = yes_with []
 
-pub record LookupOpen (ws : List ℕ) (x : Term) (r : LookupAnswer) : Type 0 where
+pub record LookupOpen (ws : List ℕ) (x : Term) (r : Result (Option Id) Refusal) : Type 0 where
   pub fair : (k : ℕ) → lookup_says r ≡ no_by k → k ≢ 0 → k ≡ 9
   pub sound : (g : Graph) → Holds ws g → lookup_says r ≡ found_as (lookup g x)
 
-abbrev pub LookupSays : List ℕ → Node → LookupAnswer → Type 0
+abbrev pub LookupSays : List ℕ → Node → Result (Option Id) Refusal → Type 0
 LookupSays ws x r = NodeLadder ws x (λ k. lookup_says r ≡ no_by k) (LookupOpen ws (node_of x) r)
 
-pub lookup_no : (ws : List ℕ) (x : Node) (r : Gate) → Gated ws x r → (q : Refusal) → r ≡ GateNot q → LookupSays ws x (LookupNot q)
-lookup_no ws x r G q e = gate_no ws x r G (λ k. lookup_says (LookupNot q) ≡ no_by k) (LookupOpen ws (node_of x) (LookupNot q)) q e refl
+pub lookup_no : (ws : List ℕ) (x : Node) (r : Result Head Refusal) → Gated ws x r → (q : Refusal) → r ≡ Err q → LookupSays ws x (Err q)
+lookup_no ws x r G q e = gate_no ws x r G (λ k. lookup_says (Err q) ≡ no_by k) (LookupOpen ws (node_of x) (Err q)) q e refl
 
-pub lookup_on : (ws : List ℕ) (x : Node) (r : Gate) → Gated ws x r → (h : Head) → r ≡ GateTo h → (a : LookupAnswer) → LookupOpen ws (node_of x) a → LookupSays ws x a
+pub lookup_on : (ws : List ℕ) (x : Node) (r : Result Head Refusal) → Gated ws x r → (h : Head) → r ≡ Ok h → (a : Result (Option Id) Refusal) → LookupOpen ws (node_of x) a → LookupSays ws x a
 lookup_on ws x r G h e a L = gate_on ws x r G (λ k. lookup_says a ≡ no_by k) (LookupOpen ws (node_of x) a) h e L
 
-module _ (ws : List ℕ) (h : Head) (q : HeadIs (length ws) (hd ws) h) (x : Node) (p : Probed) (P : Probes h x ws p) where
+module _ (ws : List ℕ) (h : Head) (q : HeadIs (length ws) (hd ws) h) (x : Node) (p : Result Probed Broken) (P : Probes h x ws p) where
   -- no graph has these words
-  none_has : p.out ≡ SeenBroken → (g : Graph) → Holds ws g → (o : Option ℕ) → kept_for g (node_of x) ≡ o → ⊥
-  none_has e g H (some i) k = let f = P.found g h.places i (holds_in ws h g q H) k in zero_one cc
-  none_has e g H none k = let f = (P.absent g h.places (holds_in ws h g q H) k).0 in zero_one cc
+  none_has : p ≡ broken → (g : Graph) → Holds ws g → (o : Option ℕ) → kept_for g (node_of x) ≡ o → ⊥
+  none_has e g H (Some i) k = let f = (P.found g h.places i (holds_in ws h g q H) k).1 in zero_one cc
+  none_has e g H None k = let f = (P.absent g h.places (holds_in ws h g q H) k).1 in zero_one cc
 
-  pub lookup_broken : p.out ≡ SeenBroken → LookupOpen ws (node_of x) (LookupNot BrokenWords)
+  pub lookup_broken : p ≡ broken → LookupOpen ws (node_of x) (Err BrokenWords)
   lookup_broken e = record { fair = λ k f _. nine k f; sound = λ g H. absurd (none_has e g H (kept_for g (node_of x)) refl) }
 
-  pub lookup_none : p.out ≡ SeenNone → LookupOpen ws (node_of x) LookupNone
-  unfolding lookup
-  lookup_none e = record { fair = λ k f n. absurd (n (sym (ap (λ (a : Answer). a.number) f))); sound = λ g H. go g H (kept_for g (node_of x)) refl }
-    where
-      go : (g : Graph) → Holds ws g → (o : Option ℕ) → kept_for g (node_of x) ≡ o → yes_with [] ≡ found_as (lookup g (node_of x))
-      go g H (some i) k = let f = P.found g h.places i (holds_in ws h g q H) k in zero_one cc
-      go g H none k = rw k refl
+  module _ (y : Probed) (is : p ≡ Ok y) where
+    -- what was seen for a node that is kept
+    seen_kept : (g : Graph) → Holds ws g → (i : ℕ) → kept_for g (node_of x) ≡ Some i → y.seen ≡ Some (record { 0 = i })
+    seen_kept g H i k = let f = P.found g h.places i (holds_in ws h g q H) k in let z : f.0 ≡ y = let t = f.1 in cc in rw (← z) f.2
 
-  module _ (y : Id) (e : p.out ≡ SeenAt y) where
-    -- the id that was seen is the one that is kept
-    seen_is : (g : Graph) → Holds ws g → (o : Option ℕ) → kept_for g (node_of x) ≡ o → kept_for g (node_of x) ≡ some y.0
-    seen_is g H (some i) k = let f = P.found g h.places i (holds_in ws h g q H) k in let z : i ≡ y.0 = cc in k ∙ ap some z
-    seen_is g H none k = let f = (P.absent g h.places (holds_in ws h g q H) k).0 in zero_one cc
+    seen_none : (g : Graph) → Holds ws g → kept_for g (node_of x) ≡ None → y.seen ≡ None
+    seen_none g H k = let f = P.absent g h.places (holds_in ws h g q H) k in let z : f.0 ≡ y = let t = f.1 in cc in rw (← z) f.2
 
-    module _ (f : Found) (F : Finds (view h.n h.m ws).forest h.ids y.0 f) where
-      law : (g : Graph) → Holds ws g → f ≡ FoundRoot (root g.roots y.0)
-      unfolding root
-      law g H = F.law h.classes g.roots (holds_in ws h g q H).forest
+    pub lookup_none : y.seen ≡ None → LookupOpen ws (node_of x) (Ok None)
+    unfolding lookup
+    lookup_none e = record { fair = λ k f n. absurd (n (sym (ap (λ (a : Answer). a.number) f))); sound = λ g H. go g H (kept_for g (node_of x)) refl }
+      where
+        go : (g : Graph) → Holds ws g → (o : Option ℕ) → kept_for g (node_of x) ≡ o → yes_with [] ≡ found_as (lookup g (node_of x))
+        go g H (Some i) k = let f = seen_kept g H i k in zero_one cc
+        go g H None k = rw k refl
 
-      pub lookup_lost : f ≡ FoundLost → LookupOpen ws (node_of x) (LookupNot BrokenWords)
-      lookup_lost l = record { fair = λ k s _. nine k s; sound = λ g H. let a = law g H in zero_one cc }
+    module _ (id : Id) (e : y.seen ≡ Some id) where
+      -- the id that was seen is the one that is kept
+      seen_is : (g : Graph) → Holds ws g → (o : Option ℕ) → kept_for g (node_of x) ≡ o → kept_for g (node_of x) ≡ Some id.0
+      seen_is g H (Some i) k = let f = seen_kept g H i k in let z : ◌≡◌ {A = Id} (record { 0 = i }) id = cc in k ∙ ap (λ (j : Id). Some j.0) z
+      seen_is g H None k = let f = seen_none g H k in zero_one cc
 
-      pub lookup_found : (z : ℕ) → f ≡ FoundRoot z → LookupOpen ws (node_of x) (LookupFound (record { 0 = z }))
-      unfolding lookup
-      lookup_found z l = record {
-        fair = λ k s _. absurd (never k z s);
-        sound = λ g H. let s : z ≡ root g.roots y.0 = cc (l, law g H) in rw (seen_is g H (kept_for g (node_of x)) refl, s) refl;
-      }
+      module _ (f : Result ℕ Broken) (F : Finds (view h.n h.m ws).forest h.ids id.0 f) where
+        law : (g : Graph) → Holds ws g → f ≡ Ok (root g.roots id.0)
+        unfolding root
+        law g H = F.law h.classes g.roots (holds_in ws h g q H).forest
+
+        pub lookup_lost : f ≡ broken → LookupOpen ws (node_of x) (Err BrokenWords)
+        lookup_lost l = record { fair = λ k s _. nine k s; sound = λ g H. let a = law g H in zero_one cc }
+
+        pub lookup_found : (z : ℕ) → f ≡ Ok z → LookupOpen ws (node_of x) (Ok (Some (record { 0 = z })))
+        unfolding lookup
+        lookup_found z l = record {
+          fair = λ k s _. absurd (never k z s);
+          sound = λ g H. let s : z ≡ root g.roots id.0 = cc (l, law g H) in rw (seen_is g H (kept_for g (node_of x)) refl, s) refl;
+        }
 
 -- ---- add
 
 -- `id` is the answer that the machine gives
-pub record Adding (id : Graph → ℕ) (ws : List ℕ) (x : Term) (r : AddAnswer) (ws' : List ℕ) : Type 0 where
+pub record Adding (id : Graph → ℕ) (ws : List ℕ) (x : Term) (r : Result Id Refusal) (ws' : List ℕ) : Type 0 where
   pub size : length ws' ≡ length ws
   pub rest : past ws ws' ≡ past ws ws
   pub scratch : scratch_of ws ws' ≡ scratch_of ws ws
   pub limits : SameLimits ws ws'
   pub spare : spare_of ws' ≡ spare_of ws
-  pub fair : (k : ℕ) → add_says r ≡ no_by k → (k ≡ 9) ⊎ ((k ≡ 6) × (ws' ≡ ws))
-  pub full : add_says r ≡ no_by 6 → Full (head_of ws) x
-  pub found : (g : Graph) (i : ℕ) → Holds ws g → kept_for g x ≡ some i → (add_says r ≡ yes_with (id g ∷ [])) × (ws' ≡ ws)
-  pub shut : (g : Graph) → Holds ws g → kept_for g x ≡ none → Full (head_of ws) x → (add_says r ≡ no_by 6) × (ws' ≡ ws)
-  pub grown : (g : Graph) → Holds ws g → kept_for g x ≡ none → Room (head_of ws) x → (add_says r ≡ yes_with (id g ∷ [])) × Holds ws' (add_uncanonical g x).graph
+  pub fair : (k : ℕ) → id_says r ≡ no_by k → (k ≡ 9) ⊎ ((k ≡ 6) × (ws' ≡ ws))
+  pub full : id_says r ≡ no_by 6 → Full (head_of ws) x
+  pub found : (g : Graph) (i : ℕ) → Holds ws g → kept_for g x ≡ Some i → (id_says r ≡ yes_with (id g ∷ [])) × (ws' ≡ ws)
+  pub shut : (g : Graph) → Holds ws g → kept_for g x ≡ None → Full (head_of ws) x → (id_says r ≡ no_by 6) × (ws' ≡ ws)
+  pub grown : (g : Graph) → Holds ws g → kept_for g x ≡ None → Room (head_of ws) x → (id_says r ≡ yes_with (id g ∷ [])) × Holds ws' (add_uncanonical g x).graph
 
-abbrev pub AddingSays : (Graph → ℕ) → List ℕ → Node → AddAnswer → List ℕ → Type 0
-AddingSays id ws x r ws' = NodeLadder ws x (λ k. (add_says r ≡ no_by k) × (ws' ≡ ws)) (Adding id ws (node_of x) r ws')
+abbrev pub AddingSays : (Graph → ℕ) → List ℕ → Node → Result Id Refusal → List ℕ → Type 0
+AddingSays id ws x r ws' = NodeLadder ws x (λ k. (id_says r ≡ no_by k) × (ws' ≡ ws)) (Adding id ws (node_of x) r ws')
 
-abbrev pub UncanonicalOpen : List ℕ → Term → AddAnswer → List ℕ → Type 0
+abbrev pub UncanonicalOpen : List ℕ → Term → Result Id Refusal → List ℕ → Type 0
 UncanonicalOpen ws x r ws' = Adding (λ g. (add_uncanonical g x).id) ws x r ws'
 
-abbrev pub UncanonicalSays : List ℕ → Node → AddAnswer → List ℕ → Type 0
+abbrev pub UncanonicalSays : List ℕ → Node → Result Id Refusal → List ℕ → Type 0
 UncanonicalSays ws x r ws' = AddingSays (λ g. (add_uncanonical g (node_of x)).id) ws x r ws'
 
-abbrev pub AddOpen : List ℕ → Term → AddAnswer → List ℕ → Type 0
+abbrev pub AddOpen : List ℕ → Term → Result Id Refusal → List ℕ → Type 0
 AddOpen ws x r ws' = Adding (λ g. (add g x).id) ws x r ws'
 
-abbrev pub AddSays : List ℕ → Node → AddAnswer → List ℕ → Type 0
+abbrev pub AddSays : List ℕ → Node → Result Id Refusal → List ℕ → Type 0
 AddSays ws x r ws' = AddingSays (λ g. (add g (node_of x)).id) ws x r ws'
 
-pub adding_no : (id : Graph → ℕ) (ws : List ℕ) (x : Node) (r : Gate) → Gated ws x r → (q : Refusal) → r ≡ GateNot q → AddingSays id ws x (AddNot q) ws
-adding_no id ws x r G q e = gate_no ws x r G (λ k. (add_says (AddNot q) ≡ no_by k) × (ws ≡ ws)) (Adding id ws (node_of x) (AddNot q) ws) q e (refl, refl)
+pub adding_no : (id : Graph → ℕ) (ws : List ℕ) (x : Node) (r : Result Head Refusal) → Gated ws x r → (q : Refusal) → r ≡ Err q → AddingSays id ws x (Err q) ws
+adding_no id ws x r G q e = gate_no ws x r G (λ k. (id_says (Err q) ≡ no_by k) × (ws ≡ ws)) (Adding id ws (node_of x) (Err q) ws) q e (refl, refl)
 
-pub adding_on : (id : Graph → ℕ) (ws : List ℕ) (x : Node) (r : Gate) → Gated ws x r → (h : Head) → r ≡ GateTo h → (a : AddAnswer) (ws' : List ℕ) → Adding id ws (node_of x) a ws'
+pub adding_on : (id : Graph → ℕ) (ws : List ℕ) (x : Node) (r : Result Head Refusal) → Gated ws x r → (h : Head) → r ≡ Ok h → (a : Result Id Refusal) (ws' : List ℕ) → Adding id ws (node_of x) a ws'
     → AddingSays id ws x a ws'
-adding_on id ws x r G h e a ws' L = gate_on ws x r G (λ k. (add_says a ≡ no_by k) × (ws' ≡ ws)) (Adding id ws (node_of x) a ws') h e L
+adding_on id ws x r G h e a ws' L = gate_on ws x r G (λ k. (id_says a ≡ no_by k) × (ws' ≡ ws)) (Adding id ws (node_of x) a ws') h e L
 
 -- the machine's answers
-pub given_old : (g : Graph) (x : Term) (i : ℕ) → kept_for g x ≡ some i → add_uncanonical g x ≡ record { graph = g; id = i }
+pub given_old : (g : Graph) (x : Term) (i : ℕ) → kept_for g x ≡ Some i → add_uncanonical g x ≡ record { graph = g; id = i }
 unfolding add_uncanonical add_by
 given_old g x i e = rw e refl
 
-given_new : (g : Graph) (x : Term) → kept_for g x ≡ none → add_uncanonical g x ≡ record { graph = grow g x; id = ids g }
+given_new : (g : Graph) (x : Term) → kept_for g x ≡ None → add_uncanonical g x ≡ record { graph = grow g x; id = ids g }
 unfolding add_uncanonical add_by
 given_new g x e = rw e refl
 
-pub uncanonical_old : (g : Graph) (x : Term) (i : ℕ) → kept_for g x ≡ some i → (add_uncanonical g x).id ≡ i
-uncanonical_old g x i e = ap (λ (a : Given). a.id) (given_old g x i e)
+pub uncanonical_old : (g : Graph) (x : Term) (i : ℕ) → kept_for g x ≡ Some i → (add_uncanonical g x).id ≡ i
+uncanonical_old g x i e = ap (λ (a : GivenId). a.id) (given_old g x i e)
 
-pub uncanonical_new : (g : Graph) (x : Term) → kept_for g x ≡ none → (add_uncanonical g x).id ≡ ids g
-uncanonical_new g x e = ap (λ (a : Given). a.id) (given_new g x e)
+pub uncanonical_new : (g : Graph) (x : Term) → kept_for g x ≡ None → (add_uncanonical g x).id ≡ ids g
+uncanonical_new g x e = ap (λ (a : GivenId). a.id) (given_new g x e)
 
-pub add_old : (g : Graph) (x : Term) (i : ℕ) → kept_for g x ≡ some i → (add g x).id ≡ root g.roots i
+pub add_old : (g : Graph) (x : Term) (i : ℕ) → kept_for g x ≡ Some i → (add g x).id ≡ root g.roots i
 unfolding add
-add_old g x i e = ap (λ (a : Given). root a.graph.roots a.id) (given_old g x i e)
+add_old g x i e = ap (λ (a : GivenId). root a.graph.roots a.id) (given_old g x i e)
 
-pub add_new : (g : Graph) (x : Term) → length g.roots ≡ ids g → kept_for g x ≡ none → (add g x).id ≡ ids g
+pub add_new : (g : Graph) (x : Term) → length g.roots ≡ ids g → kept_for g x ≡ None → (add g x).id ≡ ids g
 unfolding add grow
-add_new g x l e = ap (λ (a : Given). root a.graph.roots a.id) (given_new g x e) ∙ root_more g.roots (ids g) (ids g) l ∙ root_out g.roots (ids g) (omega arith)
+add_new g x l e = ap (λ (a : GivenId). root a.graph.roots a.id) (given_new g x e) ∙ root_more g.roots (ids g) (ids g) l ∙ root_out g.roots (ids g) (omega arith)
 
 nine_not_6 : ◌≡◌ {A = Answer} (no_by 9) (no_by 6) → ⊥
 nine_not_6 e = omega (arith, nine 6 e)
 
-module _ (id : Graph → ℕ) (ws : List ℕ) (h : Head) (q : HeadIs (length ws) (hd ws) h) (x : Term) (ws1 : List ℕ) (u : Gave) (U : Gives h x ws u ws1) where
+module _ (id : Graph → ℕ) (ws : List ℕ) (h : Head) (q : HeadIs (length ws) (hd ws) h) (x : Term) (ws1 : List ℕ) (u : Result Given GiveError) (U : Gives h x ws u ws1) where
   full_in : Full (head_of ws) x → Full h x
   full_in f = subst (λ (s : Head). Full s x) (sym q.is) f
 
   room_in : Room (head_of ws) x → Room h x
   room_in f = subst (λ (s : Head). Room s x) (sym q.is) f
 
-  pub adding_broken : u ≡ GaveBroken → Adding id ws x (AddNot BrokenWords) ws1
+  pub adding_broken : u ≡ Err GiveBroken → Adding id ws x (Err BrokenWords) ws1
   adding_broken e = record {
     size = U.inside.size;
     rest = past_rest ws h q ws1 U.inside.rest;
@@ -237,7 +239,7 @@ module _ (id : Graph → ℕ) (ws : List ℕ) (h : Head) (q : HeadIs (length ws)
     grown = λ g H k f. let a = (U.grown g (holds_in ws h g q H) k (room_in f)).1 in zero_one cc;
   }
 
-  pub adding_full : u ≡ GaveFull → Adding id ws x (AddNot NoRoom) ws1
+  pub adding_full : u ≡ Err GiveNoRoom → Adding id ws x (Err NoRoom) ws1
   adding_full e = record {
     size = U.inside.size;
     rest = past_rest ws h q ws1 U.inside.rest;
@@ -251,18 +253,22 @@ module _ (id : Graph → ℕ) (ws : List ℕ) (h : Head) (q : HeadIs (length ws)
     grown = λ g H k f. let a = (U.grown g (holds_in ws h g q H) k (room_in f)).1 in zero_one cc;
   }
 
-  module _ (y : Id) (e : u ≡ GaveOld y) where
+  pub adding_refused : (e : GiveError) → u ≡ Err e → Adding id ws x (Err (give_refused e)) ws1
+  adding_refused GiveNoRoom e = adding_full e
+  adding_refused GiveBroken e = adding_broken e
+
+  module _ (y : Id) (e : u ≡ Ok (Old y)) where
     -- the id that was there is the one that is kept
-    old_is : (g : Graph) (i : ℕ) → Holds ws g → kept_for g x ≡ some i → i ≡ y.0
+    old_is : (g : Graph) (i : ℕ) → Holds ws g → kept_for g x ≡ Some i → i ≡ y.0
     old_is g i H k = let a = U.found g i (holds_in ws h g q H) k in cc
 
-    not_shut : (g : Graph) → Holds ws g → kept_for g x ≡ none → Full (head_of ws) x → ⊥
+    not_shut : (g : Graph) → Holds ws g → kept_for g x ≡ None → Full (head_of ws) x → ⊥
     not_shut g H k f = let a = U.shut g (holds_in ws h g q H) k (full_in f) in zero_one cc
 
-    not_grown : (g : Graph) → Holds ws g → kept_for g x ≡ none → Room (head_of ws) x → ⊥
+    not_grown : (g : Graph) → Holds ws g → kept_for g x ≡ None → Room (head_of ws) x → ⊥
     not_grown g H k f = let a = (U.grown g (holds_in ws h g q H) k (room_in f)).1 in zero_one cc
 
-    pub adding_old : (v : ℕ) → ((g : Graph) → Holds ws g → kept_for g x ≡ some y.0 → id g ≡ v) → Adding id ws x (AddId (record { 0 = v })) ws1
+    pub adding_old : (v : ℕ) → ((g : Graph) → Holds ws g → kept_for g x ≡ Some y.0 → id g ≡ v) → Adding id ws x (Ok (record { 0 = v })) ws1
     adding_old v w = record {
       size = U.inside.size;
       rest = past_rest ws h q ws1 U.inside.rest;
@@ -271,19 +277,19 @@ module _ (id : Graph → ℕ) (ws : List ℕ) (h : Head) (q : HeadIs (length ws)
       spare = spare_stay ws ws1 U.inside.head;
       fair = λ k s. absurd (never k v s);
       full = λ s. absurd (never 6 v s);
-      found = λ g i H k. (ap (λ (j : ℕ). yes_with (j ∷ [])) (sym (w g H (k ∙ ap some (old_is g i H k)))), (U.old y e).1);
+      found = λ g i H k. (ap (λ (j : ℕ). yes_with (j ∷ [])) (sym (w g H (k ∙ ap Some (old_is g i H k)))), (U.old y e).1);
       shut = λ g H k f. absurd (not_shut g H k f);
       grown = λ g H k f. absurd (not_grown g H k f);
     }
 
-    module _ (f : Found) (F : Finds (view h.n h.m ws1).forest h.ids y.0 f) where
-      find_law : (g : Graph) → Holds ws g → f ≡ FoundRoot (root g.roots y.0)
+    module _ (f : Result ℕ Broken) (F : Finds (view h.n h.m ws1).forest h.ids y.0 f) where
+      find_law : (g : Graph) → Holds ws g → f ≡ Ok (root g.roots y.0)
       unfolding root
       find_law g H =
           let F' : Finds (view h.n h.m ws).forest h.ids y.0 f = subst (λ (l : List ℕ). Finds (view h.n h.m l).forest h.ids y.0 f) (U.old y e).1 F in
           F'.law h.classes g.roots (holds_in ws h g q H).forest
 
-      pub adding_lost : f ≡ FoundLost → Adding id ws x (AddNot BrokenWords) ws1
+      pub adding_lost : f ≡ broken → Adding id ws x (Err BrokenWords) ws1
       adding_lost l = record {
         size = U.inside.size;
         rest = past_rest ws h q ws1 U.inside.rest;
@@ -297,8 +303,8 @@ module _ (id : Graph → ℕ) (ws : List ℕ) (h : Head) (q : HeadIs (length ws)
         grown = λ g H k s. absurd (not_grown g H k s);
       }
 
-  pub adding_new : (k : Head) → u ≡ GaveNew k → (ws2 : List ℕ) → Noted ws1 ws2 (written (hd ws1) k) → ((g : Graph) → Holds ws g → kept_for g x ≡ none → id g ≡ ids g)
-      → Adding id ws x (AddId (record { 0 = h.ids })) ws2
+  pub adding_new : (k : Head) → u ≡ Ok (New k) → (ws2 : List ℕ) → Noted ws1 ws2 (written (hd ws1) k) → ((g : Graph) → Holds ws g → kept_for g x ≡ None → id g ≡ ids g)
+      → Adding id ws x (Ok (record { 0 = h.ids })) ws2
   adding_new k e ws2 N w = record {
     size = N.size ∙ U.inside.size;
     rest = past_rest ws h q ws2 (ap (λ (v : View). v.rest) (N.else h.n h.m) ∙ U.inside.rest);
@@ -315,7 +321,7 @@ module _ (id : Graph → ℕ) (ws : List ℕ) (h : Head) (q : HeadIs (length ws)
       N2 : Near (length ws) h k
       N2 = (U.new k e).0
 
-      held : (g : Graph) → Holds ws g → kept_for g x ≡ none → Room h x → Holds ws2 (add_uncanonical g x).graph
+      held : (g : Graph) → Holds ws g → kept_for g x ≡ None → Room h x → Holds ws2 (add_uncanonical g x).graph
       held g H m f =
           let a = U.grown g (holds_in ws h g q H) m f in
           let b = a.1 in
@@ -323,21 +329,21 @@ module _ (id : Graph → ℕ) (ws : List ℕ) (h : Head) (q : HeadIs (length ws)
           let at_k : HoldsAt k k.places (view h.n h.m ws1) (grow g x) = subst (λ (s : Head). HoldsAt s s.places (view h.n h.m ws1) (grow g x)) z a.2 in
           let at_n = subst (λ (c : ℕ). HoldsAt k k.places (view c h.m ws1) (grow g x)) (sym N2.n_is) at_k in
           let at_m = subst (λ (c : ℕ). HoldsAt k k.places (view k.n c ws1) (grow g x)) (sym N2.m_is) at_n in
-          let g_is : grow g x ≡ (add_uncanonical g x).graph = sym (ap (λ (t : Given). t.graph) (given_new g x m)) in
+          let g_is : grow g x ≡ (add_uncanonical g x).graph = sym (ap (λ (t : GivenId). t.graph) (given_new g x m)) in
           subst (Holds ws2) g_is (holds_written ws1 ws2 k (grow g x) (ok_still N2 U.inside.size) N at_m)
 
 -- ---- `add`: the root of the id
 
-pub add_held : (ws : List ℕ) (h : Head) → HeadIs (length ws) (hd ws) h → (g : Graph) (x : Term) → Holds ws g → kept_for g x ≡ none → (add g x).id ≡ ids g
+pub add_held : (ws : List ℕ) (h : Head) → HeadIs (length ws) (hd ws) h → (g : Graph) (x : Term) → Holds ws g → kept_for g x ≡ None → (add g x).id ≡ ids g
 add_held ws h q g x H e = let K = holds_in ws h g q H in add_new g x (K.forest.len ∙ K.ids_are) e
 
-pub adding_root : (ws : List ℕ) (h : Head) (q : HeadIs (length ws) (hd ws) h) (x : Term) (ws1 : List ℕ) (u : Gave) (U : Gives h x ws u ws1) (y : Id) (e : u ≡ GaveOld y)
-    (f : Found) (F : Finds (view h.n h.m ws1).forest h.ids y.0 f) (z : ℕ) → f ≡ FoundRoot z → AddOpen ws x (AddId (record { 0 = z })) ws1
+pub adding_root : (ws : List ℕ) (h : Head) (q : HeadIs (length ws) (hd ws) h) (x : Term) (ws1 : List ℕ) (u : Result Given GiveError) (U : Gives h x ws u ws1) (y : Id) (e : u ≡ Ok (Old y))
+    (f : Result ℕ Broken) (F : Finds (view h.n h.m ws1).forest h.ids y.0 f) (z : ℕ) → f ≡ Ok z → AddOpen ws x (Ok (record { 0 = z })) ws1
 adding_root ws h q x ws1 u U y e f F z l =
     adding_old (λ g. (add g x).id) ws h q x ws1 u U y e z
     (λ g H k. add_old g x y.0 k ∙ root_is (l, find_law (λ g. (add g x).id) ws h q x ws1 u U y e f F g H))
   where
-    root_is : {a b : ℕ} → (f ≡ FoundRoot a) × (f ≡ FoundRoot b) → b ≡ a
+    root_is : {a b : ℕ} → (f ≡ Ok a) × (f ≡ Ok b) → b ≡ a
     root_is p = cc (p.0, p.1)
 
 -- the words keep their number

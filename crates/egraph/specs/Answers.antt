@@ -1,44 +1,29 @@
 -- What each answer means in document 01's terms ("When a call says no"): a number, 0 for success, and values. A refusal gives its number and no value.
 -- The promises of all calls are stated through these definitions.
 -- Assumes nothing.
-use Rattle.std.specs.Prelude.{Bool, false, true, ◌⊎◌, ◌≡◌, refl, ◌<◌, ◌≤◌, ℕ, drop, length, take}
+use Rattle.std.specs.Prelude.{Err, IsErrAnd, None, Ok, Option, Result, Some, Bool, false, true, not, ◌⊎◌, ◌≡◌, refl, ◌<◌, ◌≤◌, ℕ, drop, length, take}
+use Rattle.std.specs.Option.{ok_or}
+use Rattle.broken.specs.Words.{error_is}
+use Rattle.language.specs.declared.Id.{Id}
+use Rattle.language.specs.declared.Node.{Node}
 use mathlib.Core.List.{List, [], ◌∷◌, cons≢nil}
 use Rattle.std.proofs.Common.{inl, inr, ◌∙◌, ap, subst, sym, arith}
 use Rattle.lists.specs.Tests.{zero_one}
 use Rattle.language.specs.Struct.{node_of}
 use Rattle.language.specs.Term.{words}
 use Rattle.steps.specs.Graph.{Graph}
-use Rattle.egraph.specs.declared.AddAnswer.{AddAnswer}
-use Rattle.egraph.specs.declared.AddAnswer.TheVariants.{AddId, AddNot}
-use Rattle.egraph.specs.declared.CountAnswer.{CountAnswer}
-use Rattle.egraph.specs.declared.CountAnswer.TheVariants.{CountIs, CountNot}
-use Rattle.egraph.specs.declared.FindAnswer.{FindAnswer}
-use Rattle.egraph.specs.declared.FindAnswer.TheVariants.{FindNot, FindRoot}
-use Rattle.egraph.specs.declared.FlagAnswer.{FlagAnswer}
-use Rattle.egraph.specs.declared.FlagAnswer.TheVariants.{FlagNo, FlagNot, FlagYes}
-use Rattle.egraph.specs.declared.ListAnswer.{ListAnswer}
-use Rattle.egraph.specs.declared.ListAnswer.TheVariants.{ListNot, ListWords}
-use Rattle.egraph.specs.declared.LookupAnswer.{LookupAnswer}
-use Rattle.egraph.specs.declared.LookupAnswer.TheVariants.{LookupFound, LookupNone, LookupNot}
-use Rattle.egraph.specs.declared.NodeAnswer.{NodeAnswer}
-use Rattle.egraph.specs.declared.NodeOut.{NodeOut}
-use Rattle.egraph.specs.declared.NodeOut.TheVariants.{NodeIs, NodeNot}
+use Rattle.adding.specs.declared.GiveError.{GiveError}
+use Rattle.adding.specs.declared.GiveError.TheVariants.{NoRoom as GiveNoRoom, BrokenWords as GiveBroken}
 use Rattle.egraph.specs.declared.Refusal.{Refusal}
 use Rattle.egraph.specs.declared.Refusal.TheVariants.{BadHead, BadLimits, BrokenWords, NoRoom, NotRebuilt, TooFewWords, TooLong, TooManyChildren, UnknownId}
-use Rattle.egraph.specs.declared.SetupAnswer.{SetupAnswer}
-use Rattle.egraph.specs.declared.SetupAnswer.TheVariants.{SetupDone, SetupNot}
-use Rattle.egraph.specs.declared.UnionAnswer.{UnionAnswer}
-use Rattle.egraph.specs.declared.UnionAnswer.TheVariants.{UnionNo, UnionNot, UnionYes}
 use Rattle.holds.specs.Holds.{Holds, HoldsAt}
 use Rattle.holds.specs.HoldsLaws.{false≢true, holds_written}
 use Rattle.holds.specs.Inside.{Near}
 use Rattle.layout.specs.Cut.{need}
-use Rattle.layout.specs.Head.{GoodHead, HeadIs, HeadOk, HeadSays, head_bad, head_good, head_is, numbers}
+use Rattle.layout.specs.Head.{GoodHead, HeadIs, HeadOk, HeadSays, head_good, numbers}
 use Rattle.layout.specs.View.{View, hd, view, view_rest}
 use Rattle.layout.specs.Written.{Noted, head_written, noted_hd, numbers_written, spare_written, written}
 use Rattle.layout.specs.declared.Head.{Head}
-use Rattle.layout.specs.declared.HeadRead.{HeadRead}
-use Rattle.layout.specs.declared.HeadRead.TheVariants.{HeadBad, HeadGood}
 use Rattle.uniting.specs.Near.{NearIds, view_near}
 
 pub record Answer : Type 0 where
@@ -63,6 +48,11 @@ number_of NotRebuilt = 7
 number_of TooLong = 8
 number_of BrokenWords = 9
 
+-- why an add that could not give an id is refused
+abbrev pub give_refused : GiveError → Refusal
+give_refused GiveNoRoom = NoRoom
+give_refused GiveBroken = BrokenWords
+
 -- a number is what it is, and success with a value is no refusal
 pub nine : (k : ℕ) → ◌≡◌ {A = Answer} (no_by 9) (no_by k) → k ≡ 9
 nine k e = sym (ap (λ (a : Answer). a.number) e)
@@ -70,67 +60,49 @@ nine k e = sym (ap (λ (a : Answer). a.number) e)
 pub never : (k v : ℕ) {vs : List ℕ} → ◌≡◌ {A = Answer} (yes_with (v ∷ vs)) (no_by k) → ⊥
 never k v {vs} e = let q : ◌≡◌ {A = List ℕ} (v ∷ vs) [] = ap (λ (a : Answer). a.values) e in cons≢nil q
 
--- ---- the calls' answers
+-- ---- the calls' answers: 0 and the values of what was answered, or the number of the refusal
 
-abbrev pub setup_says : SetupAnswer → Answer
-setup_says SetupDone = yes_with []
-setup_says (SetupNot q) = no_by (number_of q)
+abbrev pub says : {A : Type 0} → (A → List ℕ) → Result A Refusal → Answer
+says values (Ok a) = yes_with (values a)
+says values (Err q) = no_by (number_of q)
 
--- a root
-abbrev pub find_says : FindAnswer → Answer
-find_says (FindRoot i) = yes_with (i.0 ∷ [])
-find_says (FindNot q) = no_by (number_of q)
+-- done, with nothing to tell
+abbrev pub setup_says : Result Unit Refusal → Answer
+setup_says = says (λ (_ : Unit). [])
 
--- a count
-abbrev pub count_says : CountAnswer → Answer
-count_says (CountIs k) = yes_with (k ∷ [])
-count_says (CountNot q) = no_by (number_of q)
+-- an id, which is a root where the call says so
+abbrev pub id_says : Result Id Refusal → Answer
+id_says = says (λ (i : Id). i.0 ∷ [])
+
+-- a count, a size, or how many words of a list were written: the words themselves stand in the slice that was lent for them
+abbrev pub count_says : Result ℕ Refusal → Answer
+count_says = says (λ (k : ℕ). k ∷ [])
 
 -- yes is 1, no is 0
-abbrev pub flag_says : FlagAnswer → Answer
-flag_says FlagYes = yes_with (1 ∷ [])
-flag_says FlagNo = yes_with (0 ∷ [])
-flag_says (FlagNot q) = no_by (number_of q)
-
--- joined, or one class before
-abbrev pub union_says : UnionAnswer → Answer
-union_says UnionYes = yes_with (1 ∷ [])
-union_says UnionNo = yes_with (0 ∷ [])
-union_says (UnionNot q) = no_by (number_of q)
-
 abbrev pub flag : Bool → List ℕ
 flag true = 1 ∷ []
 flag false = 0 ∷ []
 
--- the root that was found; found nothing is an answer, with no value
-abbrev pub lookup_says : LookupAnswer → Answer
-lookup_says (LookupFound i) = yes_with (i.0 ∷ [])
-lookup_says LookupNone = yes_with []
-lookup_says (LookupNot q) = no_by (number_of q)
+abbrev pub flag_says : Result Bool Refusal → Answer
+flag_says = says flag
 
--- an id
-abbrev pub add_says : AddAnswer → Answer
-add_says (AddId i) = yes_with (i.0 ∷ [])
-add_says (AddNot q) = no_by (number_of q)
+-- the root that was found; found nothing is an answer, with no value
+abbrev pub found : Option Id → List ℕ
+found (Some i) = i.0 ∷ []
+found None = []
+
+abbrev pub lookup_says : Result (Option Id) Refusal → Answer
+lookup_says = says found
 
 -- a node, in words
-abbrev pub node_out_says : NodeOut → List ℕ → Answer
-node_out_says NodeIs xs = yes_with xs
-node_out_says (NodeNot q) xs = no_by (number_of q)
-
-abbrev pub node_says : NodeAnswer → Answer
-node_says x = node_out_says x.out (words (node_of x.node))
-
--- how many words of a list were written; the words themselves stand in the slice that was lent for them
-abbrev pub list_says : ListAnswer → Answer
-list_says (ListWords k) = yes_with (k ∷ [])
-list_says (ListNot q) = no_by (number_of q)
+abbrev pub node_says : Result Node Refusal → Answer
+node_says = says (λ (x : Node). words (node_of x))
 
 -- xs is the list that was asked for, and out the slice lent for it: 8 where the list is longer, and nothing is written; else it stands at the start of out'
-pub record Lists (xs out : List ℕ) (r : ListAnswer) (out' : List ℕ) : Type 0 where
-  pub long : length out < length xs → (list_says r ≡ no_by 8) × (out' ≡ out)
+pub record Lists (xs out : List ℕ) (r : Result ℕ Refusal) (out' : List ℕ) : Type 0 where
+  pub long : length out < length xs → (count_says r ≡ no_by 8) × (out' ≡ out)
   pub fits : length xs ≤ length out
-      → (list_says r ≡ yes_with (length xs ∷ [])) × (take (length xs) out' ≡ xs) × (drop (length xs) out' ≡ drop (length xs) out)
+      → (count_says r ≡ yes_with (length xs ∷ [])) × (take (length xs) out' ≡ xs) × (drop (length xs) out' ≡ drop (length xs) out)
 
 -- ---- the ladder of refusals, in document 01's order: refused where Bad, and else what comes after
 
@@ -152,12 +124,41 @@ Good ws = GoodHead (length ws) (hd ws)
 abbrev pub Unless3 : List ℕ → Type 0 → Type 0 → Type 0
 Unless3 ws No Next = Else (Good ws → ⊥) No (Good ws) Next
 
-module _ {N X : Type 0} (ws : List ℕ) (r : HeadRead) (s : HeadSays (length ws) (hd ws) r) where
-  pub shut : r ≡ HeadBad → N → Unless3 ws N X
-  shut e n = stop (head_bad _ _ r s e) (λ b g. b g) n
+-- the head as a call reads it, or why it refuses
+pub record Opens (ws : List ℕ) (r : Result Head Refusal) : Type 0 where
+  pub good : (h : Head) → r ≡ Ok h → HeadIs (length ws) (hd ws) h
+  pub bad : (q : Refusal) → r ≡ Err q → (q ≡ BadHead) × (Good ws → ⊥)
 
-  pub opened : (h : Head) → r ≡ HeadGood h → (HeadIs (length ws) (hd ws) h → X) → Unless3 ws N X
-  opened h e x = let i = head_is _ _ r h s e in pass (head_good i) (λ b g. b g) (x i)
+pub opens : (ws : List ℕ) (o : Option Head) (r : Result Head Refusal) → HeadSays (length ws) (hd ws) o → r ≡ ok_or o BadHead → Opens ws r
+opens ws (Some h) r s e = record {
+  good = λ k p. let z : h ≡ k = cc in subst (HeadIs (length ws) (hd ws)) z s;
+  bad = λ q p. zero_one cc;
+}
+opens ws None r s e = record {
+  good = λ k p. zero_one cc;
+  bad = λ q p. (cc, s);
+}
+
+module _ {N X : Type 0} (ws : List ℕ) (r : Result Head Refusal) (O : Opens ws r) where
+  pub shut : (q : Refusal) → r ≡ Err q → N → Unless3 ws N X
+  shut q e n = stop (O.bad q e).1 (λ b g. b g) n
+
+  pub opened : (h : Head) → r ≡ Ok h → (HeadIs (length ws) (hd ws) h → X) → Unless3 ws N X
+  opened h e x = let i = O.good h e in pass (head_good i) (λ b g. b g) (x i)
+
+-- what a call hands on where the head could not be read
+pub handed_on : {T : Type 0} (ws : List ℕ) (r : Result Head Refusal) → Opens ws r → (q : Refusal) → r ≡ Err q → (a : Result T Refusal) → IsErrAnd a (λ x. x ≡ q)
+    → a ≡ Err BadHead
+handed_on ws r O q e a i = error_is a q i ∙ ap Err (O.bad q e).0
+
+-- a flag that the code tests by its opposite
+pub not_set : (b : Bool) → not b ≡ true → b ≡ false
+not_set true e = cc
+not_set false e = refl
+
+pub set_then : (b : Bool) → not b ≡ false → b ≡ true
+set_then true e = refl
+set_then false e = cc
 
 -- the numbers that stand in the head of ws
 abbrev pub head_of : List ℕ → Head
@@ -172,25 +173,25 @@ abbrev pub Unless9 : Type 0 → Type 0 → Type 0 → Type 0
 Unless9 Whole No Next = Else (Whole → ⊥) No Whole Next
 
 -- a list that whole words read as: 9 where they are not whole, else 8 where the list xs is longer than out, both with out as it was; else xs stands at the start of out'
-abbrev pub ListAt : Type 0 → List ℕ → List ℕ → ListAnswer → List ℕ → Type 0
-ListAt Whole xs out r out' = Unless9 Whole ((list_says r ≡ no_by 9) × (out' ≡ out)) (Lists xs out r out')
+abbrev pub ListAt : Type 0 → List ℕ → List ℕ → Result ℕ Refusal → List ℕ → Type 0
+ListAt Whole xs out r out' = Unless9 Whole ((count_says r ≡ no_by 9) × (out' ≡ out)) (Lists xs out r out')
 
 -- what is left for a list of a graph, once nothing before 9 refuses it: on any words what they read as, and on words that hold a graph its list
-pub record ListOpen (list : Graph → List ℕ) (Whole : Head → List ℕ → Type 0) (reads : Head → List ℕ → List ℕ) (ws out : List ℕ) (r : ListAnswer) (out' : List ℕ) : Type 0 where
+pub record ListOpen (list : Graph → List ℕ) (Whole : Head → List ℕ → Type 0) (reads : Head → List ℕ → List ℕ) (ws out : List ℕ) (r : Result ℕ Refusal) (out' : List ℕ) : Type 0 where
   pub exact : ListAt (Whole (head_of ws) ws) (reads (head_of ws) ws) out r out'
-  pub inside : (k : ℕ) → r ≡ ListWords k → k ≤ length out
+  pub inside : (k : ℕ) → r ≡ Ok k → k ≤ length out
   pub size : length out' ≡ length out
-  pub refused : (k : ℕ) → list_says r ≡ no_by k → ((k ≡ 9) ⊎ (k ≡ 8)) × (out' ≡ out)
+  pub refused : (k : ℕ) → count_says r ≡ no_by k → ((k ≡ 9) ⊎ (k ≡ 8)) × (out' ≡ out)
   pub sound : (g : Graph) → Holds ws g → Lists (list g) out r out'
 
-pub words≢not : (x : ℕ) (q : Refusal) → ListWords x ≡ ListNot q → ⊥
+pub words≢not : (x : ℕ) (q : Refusal) → Ok x ≡ Err q → ⊥
 words≢not x q p = zero_one cc
 
 -- the three ways out of a list, with the head h in hand; what whole words read as is for a graph that they hold its list
 module _ (list : Graph → List ℕ) (Whole : Head → List ℕ → Type 0) (reads : Head → List ℕ → List ℕ) (ws : List ℕ) (h : Head) (q : HeadIs (length ws) (hd ws) h) (out : List ℕ) where
-  pub open_broken : (Whole h ws → ⊥) → ((g : Graph) → Holds ws g → Whole h ws) → ListOpen list Whole reads ws out (ListNot BrokenWords) out
+  pub open_broken : (Whole h ws → ⊥) → ((g : Graph) → Holds ws g → Whole h ws) → ListOpen list Whole reads ws out (Err BrokenWords) out
   open_broken b w = record {
-    exact = subst (λ (s : Head). ListAt (Whole s ws) (reads s ws) out (ListNot BrokenWords) out) q.is (stop b (λ x y. x y) (refl, refl));
+    exact = subst (λ (s : Head). ListAt (Whole s ws) (reads s ws) out (Err BrokenWords) out) q.is (stop b (λ x y. x y) (refl, refl));
     inside = λ k p. absurd (words≢not k BrokenWords (sym p));
     size = refl;
     refused = λ k p. (inl (nine k p), refl);
@@ -198,34 +199,34 @@ module _ (list : Graph → List ℕ) (Whole : Head → List ℕ → Type 0) (rea
   }
 
   module _ (u : Whole h ws) (is : (g : Graph) → Holds ws g → reads h ws ≡ list g) where
-    told : (r : ListAnswer) (out' : List ℕ) → Lists (reads h ws) out r out' → ListAt (Whole (head_of ws) ws) (reads (head_of ws) ws) out r out'
+    told : (r : Result ℕ Refusal) (out' : List ℕ) → Lists (reads h ws) out r out' → ListAt (Whole (head_of ws) ws) (reads (head_of ws) ws) out r out'
     told r out' L = subst (λ (s : Head). ListAt (Whole s ws) (reads s ws) out r out') q.is (pass u (λ x y. x y) L)
 
-    held : (r : ListAnswer) (out' : List ℕ) → Lists (reads h ws) out r out' → (g : Graph) → Holds ws g → Lists (list g) out r out'
+    held : (r : Result ℕ Refusal) (out' : List ℕ) → Lists (reads h ws) out r out' → (g : Graph) → Holds ws g → Lists (list g) out r out'
     held r out' L g H = subst (λ (xs : List ℕ). Lists xs out r out') (is g H) L
 
-    pub open_long : length out < length (reads h ws) → ListOpen list Whole reads ws out (ListNot TooLong) out
+    pub open_long : length out < length (reads h ws) → ListOpen list Whole reads ws out (Err TooLong) out
     open_long l =
-        let L : Lists (reads h ws) out (ListNot TooLong) out = record { long = λ _. (refl, refl); fits = λ b. absurd (omega arith) } in
+        let L : Lists (reads h ws) out (Err TooLong) out = record { long = λ _. (refl, refl); fits = λ b. absurd (omega arith) } in
         record {
-          exact = told (ListNot TooLong) out L;
+          exact = told (Err TooLong) out L;
           inside = λ k p. absurd (words≢not k TooLong (sym p));
           size = refl;
           refused = λ k p. (inr (sym (ap (λ (a : Answer). a.number) p)), refl);
-          sound = held (ListNot TooLong) out L;
+          sound = held (Err TooLong) out L;
         }
 
     pub open_written : (k : ℕ) (out' : List ℕ) → k ≡ length (reads h ws) → k ≤ length out → length out' ≡ length out → take k out' ≡ reads h ws → drop k out' ≡ drop k out
-        → ListOpen list Whole reads ws out (ListWords k) out'
+        → ListOpen list Whole reads ws out (Ok k) out'
     open_written k out' e l size front back =
-        let L : Lists (reads h ws) out (ListWords k) out' =
+        let L : Lists (reads h ws) out (Ok k) out' =
         record { long = λ b. absurd (omega arith); fits = λ _. (ap (λ (x : ℕ). yes_with (x ∷ [])) e, rw e at front, rw e at back) } in
         record {
-          exact = told (ListWords k) out' L;
+          exact = told (Ok k) out' L;
           inside = λ j p. let t : j ≡ k = cc in omega arith;
           size = size;
           refused = λ j p. absurd (never j k p);
-          sound = held (ListWords k) out' L;
+          sound = held (Ok k) out' L;
         }
 
 -- what the head says is what the graph says

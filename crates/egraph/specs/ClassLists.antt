@@ -1,7 +1,10 @@
 -- What the calls on the classes of a clean graph promise: `total_number_of_nodes`, `classes_for_op` and `classes`. On any words 3, 7 and 9 come exactly when document 01
 -- says, and for a list 8; else the answer is what the words read as. 9 never comes on words that hold a graph. A list that is refused leaves the slice lent for it as it was.
 -- Assumes nothing.
-use Rattle.std.specs.Prelude.{Bool, false, true, List, [], ◌∷◌, ◌≡◌, refl, ◌<◌, ◌≤◌, ℕ, length}
+use Rattle.egraph.specs.declared.Refusal.{Refusal}
+use Rattle.std.specs.Prelude.{Err, None, Ok, Option, Result, Some, Bool, false, true, List, [], ◌∷◌, ◌≡◌, refl, ◌<◌, ◌≤◌, ℕ, length}
+use Rattle.broken.specs.declared.Broken.{Broken}
+use Rattle.broken.specs.Words.{broken}
 use Rattle.std.proofs.Common.{◌∙◌, ap, subst, sym, arith}
 use Rattle.lists.specs.Tests.{Says}
 use Rattle.steps.specs.Classes.{classes, classes_for_op, total_number_of_nodes}
@@ -12,21 +15,13 @@ use Rattle.eclass.specs.ClassHeld.{total_few, total_is}
 use Rattle.eclass.specs.Lists.{classes_are, classes_in}
 use Rattle.eclass.specs.Ops.{ops_are, ops_in}
 use Rattle.spelling.specs.Pieces.{Wrote, wrote_back, wrote_front}
-use Rattle.eclass.specs.declared.Total.{Total}
-use Rattle.eclass.specs.declared.Total.TheVariants.{TotalBroken, TotalIs}
-use Rattle.egraph.specs.Answers.{Else, ListOpen, Lists, Unless3, Unless7, cleaned, count_says, head_of, held_clean, list_says, never, nine, no_by, open_broken, open_long, open_written, opened, pass, shut, stop, unclean, words≢not, yes_with}
-use Rattle.egraph.specs.declared.CountAnswer.{CountAnswer}
-use Rattle.egraph.specs.declared.CountAnswer.TheVariants.{CountIs, CountNot}
-use Rattle.egraph.specs.declared.ListAnswer.{ListAnswer}
-use Rattle.egraph.specs.declared.ListAnswer.TheVariants.{ListNot, ListWords}
+use Rattle.egraph.specs.Answers.{Opens, Else, ListOpen, Lists, Unless3, Unless7, cleaned, count_says, head_of, held_clean, never, nine, no_by, open_broken, open_long, open_written, opened, pass, shut, stop, unclean, words≢not, yes_with}
 use Rattle.egraph.specs.declared.Refusal.TheVariants.{BadHead, BrokenWords, NotRebuilt, TooLong}
 use Rattle.holds.specs.Holds.{Holds}
 use Rattle.holds.specs.HoldsLaws.{holds_in}
-use Rattle.layout.specs.Head.{HeadIs, HeadSays}
+use Rattle.layout.specs.Head.{HeadIs}
 use Rattle.layout.specs.View.{hd, view}
 use Rattle.layout.specs.declared.Head.{Head}
-use Rattle.layout.specs.declared.HeadRead.{HeadRead}
-use Rattle.layout.specs.declared.HeadRead.TheVariants.{HeadBad, HeadGood}
 
 -- ---- how many nodes
 
@@ -34,22 +29,22 @@ use Rattle.layout.specs.declared.HeadRead.TheVariants.{HeadBad, HeadGood}
 abbrev pub total_in : Head → List ℕ → ℕ
 total_in h ws = total_of (view h.n h.m ws).members h.n h.ids
 
-abbrev pub TotalAt : Head → List ℕ → CountAnswer → Type 0
+abbrev pub TotalAt : Head → List ℕ → Result ℕ Refusal → Type 0
 TotalAt h ws r = Else (h.ids < total_in h ws) (count_says r ≡ no_by 9) (total_in h ws ≤ h.ids) (count_says r ≡ yes_with (total_in h ws ∷ []))
 
-pub record TotalOpen (ws : List ℕ) (r : CountAnswer) : Type 0 where
+pub record TotalOpen (ws : List ℕ) (r : Result ℕ Refusal) : Type 0 where
   pub exact : TotalAt (head_of ws) ws r
   pub fair : (k : ℕ) → count_says r ≡ no_by k → k ≡ 9
   pub sound : (g : Graph) → Holds ws g → count_says r ≡ yes_with (total_number_of_nodes g ∷ [])
 
-abbrev pub TotalSays : List ℕ → CountAnswer → Type 0
+abbrev pub TotalSays : List ℕ → Result ℕ Refusal → Type 0
 TotalSays ws r =
     Unless3 ws (count_says r ≡ no_by 3)
     (Unless7 ws (count_says r ≡ no_by 7)
     (TotalOpen ws r))
 
 -- in terms of a graph that the words hold
-pub total_held : (ws : List ℕ) (g : Graph) → Holds ws g → (r : CountAnswer) → TotalSays ws r
+pub total_held : (ws : List ℕ) (g : Graph) → Holds ws g → (r : Result ℕ Refusal) → TotalSays ws r
     → Else (g.clean ≡ false) (count_says r ≡ no_by 7) (g.clean ≡ true) (count_says r ≡ yes_with (total_number_of_nodes g ∷ []))
 total_held ws g H r s = let t = s.on H.good in record { no = λ e. t.no (held_clean H ∙ e); on = λ e. (t.on (held_clean H ∙ e)).sound g H }
 
@@ -61,17 +56,17 @@ module _ (ws : List ℕ) (h : Head) (q : HeadIs (length ws) (hd ws) h) (c : h.cl
   pub its_clean : (g : Graph) → Holds ws g → g.clean ≡ true
   its_clean g H = sym (holds_in ws h g q H).clean_is ∙ c
 
-  module _ (r : Total) (T : Totals (view h.n h.m ws).members h.n h.ids r) where
-    pub total_broken : r ≡ TotalBroken → TotalOpen ws (CountNot BrokenWords)
+  module _ (r : Result ℕ Broken) (T : Totals (view h.n h.m ws).members h.n h.ids r) where
+    pub total_broken : r ≡ broken → TotalOpen ws (Err BrokenWords)
     total_broken e = record {
-      exact = subst (λ (s : Head). TotalAt s ws (CountNot BrokenWords)) q.is (stop (T.broken e) (over _ _) refl);
+      exact = subst (λ (s : Head). TotalAt s ws (Err BrokenWords)) q.is (stop (T.broken e) (over _ _) refl);
       fair = λ k p. nine k p;
       sound = λ g H. absurd (omega (arith, T.broken e, total_few (holds_in ws h g q H) (its_clean g H)));
     }
 
-    pub total_counted : (t : ℕ) → r ≡ TotalIs t → TotalOpen ws (CountIs t)
+    pub total_counted : (t : ℕ) → r ≡ Ok t → TotalOpen ws (Ok t)
     total_counted t e = record {
-      exact = subst (λ (s : Head). TotalAt s ws (CountIs t)) q.is (pass (rw (T.exact t e) at (T.few t e)) (over _ _) (ap (λ (x : ℕ). yes_with (x ∷ [])) (T.exact t e)));
+      exact = subst (λ (s : Head). TotalAt s ws (Ok t)) q.is (pass (rw (T.exact t e) at (T.few t e)) (over _ _) (ap (λ (x : ℕ). yes_with (x ∷ [])) (T.exact t e)));
       fair = λ k p. absurd (never k t p);
       sound = λ g H. ap (λ (x : ℕ). yes_with (x ∷ [])) (T.exact t e ∙ total_is (holds_in ws h g q H) (its_clean g H));
     }
@@ -79,54 +74,54 @@ module _ (ws : List ℕ) (h : Head) (q : HeadIs (length ws) (hd ws) h) (c : h.cl
 -- ---- lists
 
 -- whatever the words, an answer counts words of out. Words whose lists do not end, or lead outside the ids or to a broken row, are not whole; else reads is what they read as
-pub record ListSays (list : Graph → List ℕ) (reads : Head → List ℕ → List ℕ) (ws out : List ℕ) (r : ListAnswer) (out' : List ℕ) : Type 0 where
-  pub inside : (k : ℕ) → r ≡ ListWords k → k ≤ length out
+pub record ListSays (list : Graph → List ℕ) (reads : Head → List ℕ → List ℕ) (ws out : List ℕ) (r : Result ℕ Refusal) (out' : List ℕ) : Type 0 where
+  pub inside : (k : ℕ) → r ≡ Ok k → k ≤ length out
   pub says :
-      Unless3 ws ((list_says r ≡ no_by 3) × (out' ≡ out))
-      (Unless7 ws ((list_says r ≡ no_by 7) × (out' ≡ out))
+      Unless3 ws ((count_says r ≡ no_by 3) × (out' ≡ out))
+      (Unless7 ws ((count_says r ≡ no_by 7) × (out' ≡ out))
       (ListOpen list UnbrokenIn reads ws out r out'))
 
 -- in terms of a graph that the words hold
-pub list_held : (list : Graph → List ℕ) (reads : Head → List ℕ → List ℕ) (ws : List ℕ) (g : Graph) → Holds ws g → (out : List ℕ) (r : ListAnswer) (out' : List ℕ) → ListSays list reads ws out r out'
-    → Else (g.clean ≡ false) ((list_says r ≡ no_by 7) × (out' ≡ out)) (g.clean ≡ true) (Lists (list g) out r out')
+pub list_held : (list : Graph → List ℕ) (reads : Head → List ℕ → List ℕ) (ws : List ℕ) (g : Graph) → Holds ws g → (out : List ℕ) (r : Result ℕ Refusal) (out' : List ℕ) → ListSays list reads ws out r out'
+    → Else (g.clean ≡ false) ((count_says r ≡ no_by 7) × (out' ≡ out)) (g.clean ≡ true) (Lists (list g) out r out')
 list_held list reads ws g H out r out' s = let t = s.says.on H.good in record { no = λ e. t.no (held_clean H ∙ e); on = λ e. (t.on (held_clean H ∙ e)).sound g H }
 
 -- `classes_for_op`
-abbrev pub ForOpOpen : List ℕ → ℕ → List ℕ → ListAnswer → List ℕ → Type 0
+abbrev pub ForOpOpen : List ℕ → ℕ → List ℕ → Result ℕ Refusal → List ℕ → Type 0
 ForOpOpen ws o out r out' = ListOpen (λ (g : Graph). classes_for_op g o) UnbrokenIn (λ (h : Head) (l : List ℕ). ops_in h l o) ws out r out'
 
-abbrev pub ForOpSays : List ℕ → ℕ → List ℕ → ListAnswer → List ℕ → Type 0
+abbrev pub ForOpSays : List ℕ → ℕ → List ℕ → Result ℕ Refusal → List ℕ → Type 0
 ForOpSays ws o out r out' = ListSays (λ (g : Graph). classes_for_op g o) (λ (h : Head) (l : List ℕ). ops_in h l o) ws out r out'
 
 -- `classes`
-abbrev pub ClassesOpen : List ℕ → List ℕ → ListAnswer → List ℕ → Type 0
+abbrev pub ClassesOpen : List ℕ → List ℕ → Result ℕ Refusal → List ℕ → Type 0
 ClassesOpen = ListOpen classes UnbrokenIn classes_in
 
-abbrev pub ClassesSays : List ℕ → List ℕ → ListAnswer → List ℕ → Type 0
+abbrev pub ClassesSays : List ℕ → List ℕ → Result ℕ Refusal → List ℕ → Type 0
 ClassesSays = ListSays classes classes_in
 
 -- as the head is read
-module _ (list : Graph → List ℕ) (reads : Head → List ℕ → List ℕ) (ws out : List ℕ) (r : HeadRead) (s : HeadSays (length ws) (hd ws) r) where
-  pub list_shut : r ≡ HeadBad → ListSays list reads ws out (ListNot BadHead) out
-  list_shut e = record { inside = λ k p. absurd (words≢not k BadHead (sym p)); says = shut ws r s e (refl, refl) }
+module _ (list : Graph → List ℕ) (reads : Head → List ℕ → List ℕ) (ws out : List ℕ) (r : Result Head Refusal) (O : Opens ws r) where
+  pub list_shut : (q : Refusal) → r ≡ Err q → ListSays list reads ws out (Err BadHead) out
+  list_shut q e = record { inside = λ k p. absurd (words≢not k BadHead (sym p)); says = shut ws r O q e (refl, refl) }
 
-  module _ (h : Head) (e : r ≡ HeadGood h) where
-    pub list_unclean : h.clean ≡ false → ListSays list reads ws out (ListNot NotRebuilt) out
-    list_unclean f = record { inside = λ k p. absurd (words≢not k NotRebuilt (sym p)); says = opened ws r s h e (λ q. unclean ws h q f (refl, refl)) }
+  module _ (h : Head) (e : r ≡ Ok h) where
+    pub list_unclean : h.clean ≡ false → ListSays list reads ws out (Err NotRebuilt) out
+    list_unclean f = record { inside = λ k p. absurd (words≢not k NotRebuilt (sym p)); says = opened ws r O h e (λ q. unclean ws h q f (refl, refl)) }
 
-    pub list_opened : h.clean ≡ true → (a : ListAnswer) (out' : List ℕ) → ListOpen list UnbrokenIn reads ws out a out' → ListSays list reads ws out a out'
-    list_opened f a out' o = record { inside = o.inside; says = opened ws r s h e (λ q. cleaned ws h q f o) }
+    pub list_opened : h.clean ≡ true → (a : Result ℕ Refusal) (out' : List ℕ) → ListOpen list UnbrokenIn reads ws out a out' → ListSays list reads ws out a out'
+    list_opened f a out' o = record { inside = o.inside; says = opened ws r O h e (λ q. cleaned ws h q f o) }
 
 module _ (list : Graph → List ℕ) (reads : Head → List ℕ → List ℕ) (ws : List ℕ) (h : Head) (q : HeadIs (length ws) (hd ws) h) (c : h.clean ≡ true) (out : List ℕ) where
-  pub list_broken : (b : Bool) → Says b (UnbrokenIn h ws) → b ≡ false → ListOpen list UnbrokenIn reads ws out (ListNot BrokenWords) out
+  pub list_broken : (b : Bool) → Says b (UnbrokenIn h ws) → b ≡ false → ListOpen list UnbrokenIn reads ws out (Err BrokenWords) out
   list_broken b s e = open_broken list UnbrokenIn reads ws h q out (s.fails e) (λ g H. unbroken (holds_in ws h g q H) (its_clean ws h q c g H))
 
   -- the words are whole; what they read as is for a graph that they hold its list, and k is how long it is
   module _ (u : UnbrokenIn h ws) (is : (g : Graph) → Holds ws g → reads h ws ≡ list g) (k : ℕ) (e : k ≡ length (reads h ws)) where
-    pub list_long : length out < k → ListOpen list UnbrokenIn reads ws out (ListNot TooLong) out
+    pub list_long : length out < k → ListOpen list UnbrokenIn reads ws out (Err TooLong) out
     list_long l = open_long list UnbrokenIn reads ws h q out u is (omega arith)
 
-    pub list_written : k ≤ length out → (p : ℕ) (out' : List ℕ) → Wrote out 0 (reads h ws) p out' → ListOpen list UnbrokenIn reads ws out (ListWords p) out'
+    pub list_written : k ≤ length out → (p : ℕ) (out' : List ℕ) → Wrote out 0 (reads h ws) p out' → ListOpen list UnbrokenIn reads ws out (Ok p) out'
     list_written l p out' w =
         let n : p ≡ length (reads h ws) = omega (arith, w.next) in
         let b : length (reads h ws) ≤ length out = omega arith in

@@ -2,7 +2,9 @@
 -- children. `Classed` says that words hold a clean graph but for the scratch part, which is lent for an extraction's work; `Stands` says where a walk over a class
 -- stands. What is inside of the two is known to the laws of this file alone: whoever reads classes cites these laws and nothing of the parts.
 -- Assumes nothing.
-use Rattle.std.specs.Prelude.{true, List, map, ◌≢◌, ◌≡◌, refl, ◌*◌, ◌+◌, ◌-◌, ◌<◌, ◌≤◌, suc, ℕ, length, replicate}
+use Rattle.std.specs.Prelude.{Err, Ok, Result, true, List, map, ◌≢◌, ◌≡◌, refl, ◌*◌, ◌+◌, ◌-◌, ◌<◌, ◌≤◌, suc, ℕ, length, replicate}
+use Rattle.broken.specs.declared.Broken.{Broken}
+use Rattle.broken.specs.Words.{broken}
 use Rattle.std.proofs.Common.{◌∙◌, ap, subst, sym, arith}
 use Rattle.std.proofs.Math.ListN.{get_or-map, length-map}
 use Rattle.lists.specs.Members.{Mem, mem_at}
@@ -11,20 +13,14 @@ use Rattle.lists.specs.Tests.{zero_one}
 use Rattle.language.specs.Struct.{node_of}
 use Rattle.language.specs.Term.{Term, places, term_at}
 use Rattle.language.specs.declared.Id.{Id}
+use Rattle.language.specs.declared.Node.{Node}
 use Rattle.steps.specs.Classes.{class_nodes, class_roots}
 use Rattle.steps.specs.Graph.{Graph, ids, key_of, node, root}
 use Rattle.closure.specs.Listed.{nodes_from, roots_has}
 use Rattle.cells.specs.Cursor.{Cursor as CellWalk, cursor_start, cursor_step, length_low}
 use Rattle.cells.specs.Pool.{row}
 use Rattle.cells.specs.Reading.{Word}
-use Rattle.egraph.specs.Listing.{NoNode}
 use Rattle.egraph.specs.declared.Cursor.{Cursor}
-use Rattle.egraph.specs.declared.NodeAnswer.{NodeAnswer}
-use Rattle.egraph.specs.declared.NodeOut.{NodeOut}
-use Rattle.egraph.specs.declared.NodeOut.TheVariants.{NodeIs, NodeNot}
-use Rattle.egraph.specs.declared.NodesRead.{NodesRead}
-use Rattle.egraph.specs.declared.NodesRead.TheVariants.{NodesAt, NodesBroken}
-use Rattle.egraph.specs.declared.Refusal.{Refusal}
 use Rattle.holds.specs.Holds.{Holds, HoldsAt}
 use Rattle.holds.specs.HoldsLaws.{holds_in, root_again}
 use Rattle.layout.specs.Cut.{scratch}
@@ -33,10 +29,8 @@ use Rattle.layout.specs.Lent.{Lent}
 use Rattle.layout.specs.View.{View, hd, put, view}
 use Rattle.layout.specs.declared.Head.{Head}
 use Rattle.rows.specs.Determined.{read_key, sane}
-use Rattle.rows.specs.Promise.{Key}
-use Rattle.rows.specs.Read.{Sane, key_read, sane_test}
-use Rattle.rows.specs.declared.Fetch.TheVariants.{FetchBroken, FetchDone}
-use Rattle.rows.specs.declared.Fetched.{Fetched}
+use Rattle.rows.specs.Promise.{IsNode, IsNodeOf, Key}
+use Rattle.rows.specs.Read.{Sane, key_read}
 use Rattle.unionfind.specs.Forest.{root_low}
 
 -- ---- the graph that is read
@@ -115,53 +109,31 @@ classed_node {h} {v} {g} C i l =
     )
 
 -- what `root_node` promises
-pub record RootNode (h : Head) (v : View) (i : ℕ) (r : NodeAnswer) : Type 0 where
-  pub few : r.node.count ≤ places
-  pub done : Readable h v i → (r.out ≡ NodeIs) × (node_of r.node ≡ root_node_in h v i)
-  pub only : r.out ≡ NodeIs → Readable h v i
-  pub sound : (g : Graph) → Classed h v g → i < ids g → (r.out ≡ NodeIs) × (node_of r.node ≡ key_of g i)
-
-is≢not : {A : Type 0} {q : Refusal} → NodeIs ≡ NodeNot q → A
-is≢not e = zero_one cc
-
--- what is refused could not be read
-pub root_node_not : {h : Head} {v : View} {i : ℕ} {r : NodeAnswer} → RootNode h v i r → (o : NodeOut) (q : Refusal) → o ≡ r.out → o ≡ NodeNot q → Readable h v i → ⊥
-root_node_not F o q w e R = is≢not (sym (F.done R).0 ∙ (sym w ∙ e))
+pub record RootNode (h : Head) (v : View) (i : ℕ) (r : Result Node Broken) : Type 0 where
+  pub found : (x : Node) → r ≡ Ok x → Readable h v i × IsNode x (root_node_in h v i)
+  pub lost : r ≡ broken → Readable h v i → ⊥
+  pub sound : (g : Graph) → Classed h v g → i < ids g → IsNodeOf r (key_of g i)
 
 module _ (h : Head) (v : View) (i : ℕ) where
-  -- no node, where none can be read
-  no_root_node : (Readable h v i → ⊥) → (q : Refusal) (r : NodeAnswer) → NoNode q r → RootNode h v i r
-  no_root_node b q r N = record {
-    few = N.few;
-    done = λ R. absurd (b R);
-    only = λ e. is≢not (sym e ∙ N.why);
-    sound = λ g C l. absurd (b (classed_node C i l).0);
+  pub root_node_stray : h.ids ≤ i → RootNode h v i broken
+  unfolding Readable
+  root_node_stray off = record {
+    found = λ x e. zero_one cc;
+    lost = λ _ R. omega (arith, R.0);
+    sound = λ g C l. absurd (let R = (classed_node C i l).0 in omega (arith, R.0));
   }
 
-  pub root_node_stray : h.ids ≤ i → (q : Refusal) (r : NodeAnswer) → NoNode q r → RootNode h v i r
-  unfolding Readable
-  root_node_stray off q r N = no_root_node (λ R. omega (arith, R.0)) q r N
-
-  module _ (l : i < h.ids) (f : Fetched) (K : Key v.rows h.n h.m i f) where
-    pub root_node_broken : f.out ≡ FetchBroken → (q : Refusal) (r : NodeAnswer) → NoNode q r → RootNode h v i r
-    unfolding Readable
-    root_node_broken e q r N = no_root_node (λ R. apart (sym (K.done R.1) ∙ e)) q r N
-      where
-        apart : FetchDone ≡ FetchBroken → ⊥
-        apart p = zero_one cc
-
-    pub root_node_read : f.out ≡ FetchDone → RootNode h v i (record { out = NodeIs; node = f.node })
-    unfolding Readable root_node_in
-    root_node_read e = record {
-      few = K.few;
-      done = λ R. (refl, K.exact);
-      only = λ _. (l, fine (sane_test v.rows h.n h.m i));
-      sound = λ g C k. (refl, K.exact ∙ (classed_node C i k).1);
-    }
-      where
-        fine : Dec (Sane v.rows h.n h.m i) → Sane v.rows h.n h.m i
-        fine (yes s) = s
-        fine (no s) = zero_one (cc (e, K.broken s))
+  pub root_node_read : i < h.ids → (f : Result Node Broken) → Key v.rows h.n h.m i f → RootNode h v i f
+  unfolding Readable root_node_in
+  root_node_read l f K = record {
+    found = λ x e. let q = K.found x e in ((l, q.0), q.1);
+    lost = λ e R. K.broken e R.1;
+    sound = λ g C k. named f K (classed_node C i k).0 (classed_node C i k).1;
+  }
+    where
+      named : (f : Result Node Broken) → Key v.rows h.n h.m i f → Readable h v i → {t : Term} → root_node_in h v i ≡ t → IsNodeOf f t
+      named (Ok x) K R e = (x, refl, (K.found x refl).1.exact ∙ e)
+      named (Err _) K R e = absurd (K.broken refl R.1)
 
 -- ---- the nodes of a class, from the last back
 
@@ -207,41 +179,41 @@ abbrev pub Known : Head → Cursor → Type 0
 Known h cur = 0 < cur.left → cur.id.0 < h.ids
 
 -- what `class_nodes` promises
-pub record ClassNodes (h : Head) (v : View) (c : ℕ) (r : NodesRead) : Type 0 where
-  pub few : (cur : Cursor) → r ≡ NodesAt cur → cur.left ≤ h.n
-  pub known : (cur : Cursor) → r ≡ NodesAt cur → Known h cur
-  pub stands : (cur : Cursor) → r ≡ NodesAt cur → Stands h v c cur
-  pub all : (cur : Cursor) → r ≡ NodesAt cur → (g : Graph) → Classed h v g → cur.left ≡ length (class_nodes g c)
-  pub sound : r ≡ NodesBroken → (g : Graph) → Classed h v g → ⊥
+pub record ClassNodes (h : Head) (v : View) (c : ℕ) (r : Result Cursor Broken) : Type 0 where
+  pub few : (cur : Cursor) → r ≡ Ok cur → cur.left ≤ h.n
+  pub known : (cur : Cursor) → r ≡ Ok cur → Known h cur
+  pub stands : (cur : Cursor) → r ≡ Ok cur → Stands h v c cur
+  pub all : (cur : Cursor) → r ≡ Ok cur → (g : Graph) → Classed h v g → cur.left ≡ length (class_nodes g c)
+  pub sound : r ≡ broken → (g : Graph) → Classed h v g → ⊥
 
 -- what `previous` promises
-pub record Previous (h : Head) (v : View) (from : Cursor) (r : NodesRead) : Type 0 where
-  pub fewer : (cur : Cursor) → r ≡ NodesAt cur → cur.left ≡ from.left - 1
-  pub known : (cur : Cursor) → r ≡ NodesAt cur → Known h cur
-  pub stands : (cur : Cursor) → r ≡ NodesAt cur → (c : ℕ) → Stands h v c from → Stands h v c cur
-  pub sound : r ≡ NodesBroken → (c : ℕ) → Stands h v c from → (g : Graph) → Classed h v g → ⊥
+pub record Previous (h : Head) (v : View) (from : Cursor) (r : Result Cursor Broken) : Type 0 where
+  pub fewer : (cur : Cursor) → r ≡ Ok cur → cur.left ≡ from.left - 1
+  pub known : (cur : Cursor) → r ≡ Ok cur → Known h cur
+  pub stands : (cur : Cursor) → r ≡ Ok cur → (c : ℕ) → Stands h v c from → Stands h v c cur
+  pub sound : r ≡ broken → (c : ℕ) → Stands h v c from → (g : Graph) → Classed h v g → ⊥
 
 -- what `stand` makes of a count and the word of an id
-pub record StoodAt (N left id : ℕ) (r : NodesRead) : Type 0 where
-  pub count : (cur : Cursor) → r ≡ NodesAt cur → cur.left ≡ left
-  pub next : (cur : Cursor) → r ≡ NodesAt cur → 0 < left → (cur.id.0 ≡ id) × (id < N)
-  pub lost : r ≡ NodesBroken → (0 < left) × (N ≤ id)
+pub record StoodAt (N left id : ℕ) (r : Result Cursor Broken) : Type 0 where
+  pub count : (cur : Cursor) → r ≡ Ok cur → cur.left ≡ left
+  pub next : (cur : Cursor) → r ≡ Ok cur → 0 < left → (cur.id.0 ≡ id) × (id < N)
+  pub lost : r ≡ broken → (0 < left) × (N ≤ id)
 
-broken≢at : {A : Type 0} {cur : Cursor} → NodesBroken ≡ NodesAt cur → A
+broken≢at : {A : Type 0} {cur : Cursor} → broken ≡ Ok cur → A
 broken≢at e = zero_one cc
 
 module _ (N left : ℕ) (x : Id) where
-  pub stood_end : left ≡ 0 → StoodAt N left x.0 (NodesAt (record { left = left; id = x }))
+  pub stood_end : left ≡ 0 → StoodAt N left x.0 (Ok (record { left = left; id = x }))
   stood_end z = record {
     count = λ cur e. let p : record { left = left; id = x } ≡ cur = cc in ap (λ (y : Cursor). y.left) (sym p);
     next = λ cur e s. absurd (omega arith);
     lost = λ e. broken≢at (sym e);
   }
 
-  pub stood_lost : left ≢ 0 → N ≤ x.0 → StoodAt N left x.0 NodesBroken
+  pub stood_lost : left ≢ 0 → N ≤ x.0 → StoodAt N left x.0 broken
   stood_lost s off = record { count = λ cur e. broken≢at e; next = λ cur e. broken≢at e; lost = λ _. (omega arith, off) }
 
-  pub stood_next : x.0 < N → StoodAt N left x.0 (NodesAt (record { left = left; id = x }))
+  pub stood_next : x.0 < N → StoodAt N left x.0 (Ok (record { left = left; id = x }))
   stood_next l = record {
     count = λ cur e. let p : record { left = left; id = x } ≡ cur = cc in ap (λ (y : Cursor). y.left) (sym p);
     next = λ cur e s. let p : record { left = left; id = x } ≡ cur = cc in (ap (λ (y : Cursor). y.id.0) (sym p), l);
@@ -249,11 +221,11 @@ module _ (N left : ℕ) (x : Id) where
   }
 
 -- a walk over cells, as a cursor has it
-module _ (h : Head) (v : View) (c left id : ℕ) (r : NodesRead) (T : StoodAt h.ids left id r) where
-  stood_known : (cur : Cursor) → r ≡ NodesAt cur → Known h cur
+module _ (h : Head) (v : View) (c left id : ℕ) (r : Result Cursor Broken) (T : StoodAt h.ids left id r) where
+  stood_known : (cur : Cursor) → r ≡ Ok cur → Known h cur
   stood_known cur e s = let q = T.next cur e (omega (arith, T.count cur e)) in omega (arith, q.0, q.1)
 
-  stood_stands : c < h.n → CellWalk v.members h.n h.n c left id → (cur : Cursor) → r ≡ NodesAt cur → Stands h v c cur
+  stood_stands : c < h.n → CellWalk v.members h.n h.n c left id → (cur : Cursor) → r ≡ Ok cur → Stands h v c cur
   stood_stands l W cur e = record {
     low = l;
     walk = record {
@@ -263,7 +235,7 @@ module _ (h : Head) (v : View) (c left id : ℕ) (r : NodesRead) (T : StoodAt h.
   }
 
   -- a walk that strays is no graph's
-  stood_sound : c < h.n → CellWalk v.members h.n h.n c left id → r ≡ NodesBroken → (g : Graph) → Classed h v g → ⊥
+  stood_sound : c < h.n → CellWalk v.members h.n h.n c left id → r ≡ broken → (g : Graph) → Classed h v g → ⊥
   stood_sound l W e g C =
       let q = T.lost e in
       let M = C.held.members in
@@ -273,7 +245,7 @@ module _ (h : Head) (v : View) (c left id : ℕ) (r : NodesRead) (T : StoodAt h.
       omega (arith, q.1)
 
 module _ (h : Head) (v : View) (c : ℕ) (low : c < h.n) (k : ℕ) (K : Word v.members (c + h.n + h.n) k) where
-  pub nodes_long : h.n < k → ClassNodes h v c NodesBroken
+  pub nodes_long : h.n < k → ClassNodes h v c broken
   nodes_long l = record {
     few = λ cur e. broken≢at e;
     known = λ cur e. broken≢at e;
@@ -282,7 +254,7 @@ module _ (h : Head) (v : View) (c : ℕ) (low : c < h.n) (k : ℕ) (K : Word v.m
     sound = λ _ g C. length_low v.members h.n h.n c low (rw (← K.exact) l) C.held.members.lists C.held.members.pool;
   }
 
-  pub nodes_start : k ≤ h.n → (x : ℕ) → Word v.members c x → (r : NodesRead) → StoodAt h.ids k x r → ClassNodes h v c r
+  pub nodes_start : k ≤ h.n → (x : ℕ) → Word v.members c x → (r : Result Cursor Broken) → StoodAt h.ids k x r → ClassNodes h v c r
   nodes_start l x X r T = record {
     few = λ cur e. rw (T.count cur e) l;
     known = stood_known h v c k x r T;
@@ -298,7 +270,7 @@ module _ (h : Head) (v : View) (c : ℕ) (low : c < h.n) (k : ℕ) (K : Word v.m
       length_is g C = K.exact ∙ ((C.held.members.pool.rows c low).size ∙ rw (← C.held.tidy_lists C.clean c, length-map) refl)
 
 pub previous_done : (h : Head) (v : View) (from : Cursor) (x : ℕ) → 0 < from.left → Word v.members (h.n + h.n + h.n + from.id.0) x
-    → (r : NodesRead) → StoodAt h.ids (from.left - 1) x r → Previous h v from r
+    → (r : Result Cursor Broken) → StoodAt h.ids (from.left - 1) x r → Previous h v from r
 previous_done h v from x some X r T = record {
   fewer = T.count;
   known = stood_known h v 0 (from.left - 1) x r T;

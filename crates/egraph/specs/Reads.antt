@@ -1,18 +1,17 @@
 -- What `find`, `number_of_classes`, `is_empty` and `clean` promise. They take the words by `&` and change nothing. On any words 3, 4 and 9 come exactly when document 01
 -- says, and else the answer is what stands in the words; 9 never comes on words that hold a graph.
 -- Assumes nothing.
-use Rattle.std.specs.Prelude.{Bool, false, true, List, [], ◌∷◌, ◌≢◌, ◌≡◌, refl, ◌<◌, ◌≤◌, ℕ, eqb, length}
+use Rattle.egraph.specs.declared.Refusal.{Refusal}
+use Rattle.language.specs.declared.Id.{Id}
+use Rattle.std.specs.Prelude.{Err, Ok, Result, Bool, false, true, List, [], ◌∷◌, ◌≢◌, ◌≡◌, refl, ◌<◌, ◌≤◌, ℕ, eqb, length}
+use Rattle.broken.specs.declared.Broken.{Broken}
+use Rattle.broken.specs.Words.{broken}
 use Rattle.std.proofs.Common.{◌∙◌, sym, eq-eqb, ne_eqb}
 use Rattle.std.proofs.Math.Path.{ap}
 use Rattle.lists.specs.Tests.{zero_one}
 use Rattle.steps.specs.Classes.{number_of_classes}
 use Rattle.steps.specs.Graph.{Graph, ids, root}
-use Rattle.egraph.specs.Answers.{Answer, Else, Unless3, count_says, find_says, flag, flag_says, head_of, never, nine, no_by, yes_with}
-use Rattle.egraph.specs.declared.CountAnswer.{CountAnswer}
-use Rattle.egraph.specs.declared.CountAnswer.TheVariants.{CountIs}
-use Rattle.egraph.specs.declared.FindAnswer.{FindAnswer}
-use Rattle.egraph.specs.declared.FindAnswer.TheVariants.{FindNot, FindRoot}
-use Rattle.egraph.specs.declared.FlagAnswer.{FlagAnswer}
+use Rattle.egraph.specs.Answers.{Answer, Else, Unless3, count_says, id_says, flag, flag_says, head_of, never, nine, no_by, yes_with}
 use Rattle.egraph.specs.declared.Refusal.TheVariants.{BrokenWords}
 use Rattle.holds.specs.Holds.{Holds}
 use Rattle.holds.specs.HoldsLaws.{holds_in}
@@ -22,34 +21,32 @@ use Rattle.layout.specs.declared.Head.{Head}
 use Rattle.unionfind.specs.Forest.{class_count}
 use Rattle.unionfind.specs.Promise.{Finds}
 use Rattle.unionfind.specs.Words.{find_in}
-use Rattle.unionfind.specs.declared.Found.{Found}
-use Rattle.unionfind.specs.declared.Found.TheVariants.{FoundLost, FoundRoot}
 
 -- ---- find
 
 -- where the chain of links from id i ends, as the words of the forest have it; one that leads outside the ids, or does not end among them, is lost
-abbrev pub chain_in : Head → List ℕ → ℕ → Found
+abbrev pub chain_in : Head → List ℕ → ℕ → Result ℕ Broken
 chain_in h ws i = find_in (view h.n h.m ws).forest h.ids h.ids i
 
 -- a root, or 9
-abbrev pub chain_says : Found → Answer
-chain_says (FoundRoot x) = yes_with (x ∷ [])
-chain_says FoundLost = no_by 9
+abbrev pub chain_says : Result ℕ Broken → Answer
+chain_says (Ok x) = yes_with (x ∷ [])
+chain_says (Err _) = no_by 9
 
-pub record FindOpen (ws : List ℕ) (i : ℕ) (r : FindAnswer) : Type 0 where
-  pub exact : find_says r ≡ chain_says (chain_in (head_of ws) ws i)
-  pub fair : (k : ℕ) → find_says r ≡ no_by k → k ≡ 9
-  pub sound : (g : Graph) → Holds ws g → find_says r ≡ yes_with (root g.roots i ∷ [])
+pub record FindOpen (ws : List ℕ) (i : ℕ) (r : Result Id Refusal) : Type 0 where
+  pub exact : id_says r ≡ chain_says (chain_in (head_of ws) ws i)
+  pub fair : (k : ℕ) → id_says r ≡ no_by k → k ≡ 9
+  pub sound : (g : Graph) → Holds ws g → id_says r ≡ yes_with (root g.roots i ∷ [])
 
-abbrev pub FindSays : List ℕ → ℕ → FindAnswer → Type 0
+abbrev pub FindSays : List ℕ → ℕ → Result Id Refusal → Type 0
 FindSays ws i r =
-    Unless3 ws (find_says r ≡ no_by 3)
-    (Else ((head_of ws).ids ≤ i) (find_says r ≡ no_by 4) (i < (head_of ws).ids)
+    Unless3 ws (id_says r ≡ no_by 3)
+    (Else ((head_of ws).ids ≤ i) (id_says r ≡ no_by 4) (i < (head_of ws).ids)
     (FindOpen ws i r))
 
-module _ (ws : List ℕ) (h : Head) (q : HeadIs (length ws) (hd ws) h) (i : ℕ) (r : Found) (F : Finds (view h.n h.m ws).forest h.ids i r) (hi : i < h.ids) where
+module _ (ws : List ℕ) (h : Head) (q : HeadIs (length ws) (hd ws) h) (i : ℕ) (r : Result ℕ Broken) (F : Finds (view h.n h.m ws).forest h.ids i r) (hi : i < h.ids) where
   -- what the forest answers on words that hold a graph
-  law : (g : Graph) → Holds ws g → r ≡ FoundRoot (root g.roots i)
+  law : (g : Graph) → Holds ws g → r ≡ Ok (root g.roots i)
   unfolding root
   law g H = F.law h.classes g.roots (holds_in ws h g q H).forest
 
@@ -57,13 +54,13 @@ module _ (ws : List ℕ) (h : Head) (q : HeadIs (length ws) (hd ws) h) (i : ℕ)
   chained : r ≡ chain_in (head_of ws) ws i
   chained = F.exact ∙ ap (λ (s : Head). chain_in s ws i) q.is
 
-  pub find_lost : r ≡ FoundLost → FindOpen ws i (FindNot BrokenWords)
+  pub find_lost : r ≡ broken → FindOpen ws i (Err BrokenWords)
   find_lost e = record { exact = ap chain_says (sym e ∙ chained); fair = nine; sound = λ g H. absurd (apart (sym e ∙ law g H)) }
     where
-      apart : {x : ℕ} → FoundLost ≡ FoundRoot x → ⊥
+      apart : {x : ℕ} → broken ≡ Ok x → ⊥
       apart p = zero_one cc
 
-  pub find_root : (x : ℕ) → r ≡ FoundRoot x → FindOpen ws i (FindRoot (record { 0 = x }))
+  pub find_root : (x : ℕ) → r ≡ Ok x → FindOpen ws i (Ok (record { 0 = x }))
   find_root x e = record {
     exact = ap chain_says (sym e ∙ chained);
     fair = λ k p. absurd (never k x p);
@@ -72,56 +69,43 @@ module _ (ws : List ℕ) (h : Head) (q : HeadIs (length ws) (hd ws) h) (i : ℕ)
 
 -- ---- counts and flags, which stand in the head
 
-pub record CountOpen (ws : List ℕ) (r : CountAnswer) : Type 0 where
+pub record CountOpen (ws : List ℕ) (r : Result ℕ Refusal) : Type 0 where
   pub exact : count_says r ≡ yes_with ((head_of ws).classes ∷ [])
   pub sound : (g : Graph) → Holds ws g → count_says r ≡ yes_with (number_of_classes g ∷ [])
 
-abbrev pub CountSays : List ℕ → CountAnswer → Type 0
+abbrev pub CountSays : List ℕ → Result ℕ Refusal → Type 0
 CountSays ws r = Unless3 ws (count_says r ≡ no_by 3) (CountOpen ws r)
 
-pub record EmptyOpen (ws : List ℕ) (r : FlagAnswer) : Type 0 where
+pub record EmptyOpen (ws : List ℕ) (r : Result Bool Refusal) : Type 0 where
   pub exact : flag_says r ≡ yes_with (flag (eqb (head_of ws).ids 0))
   pub sound : (g : Graph) → Holds ws g → flag_says r ≡ yes_with (flag (eqb (ids g) 0))
 
-abbrev pub EmptySays : List ℕ → FlagAnswer → Type 0
+abbrev pub EmptySays : List ℕ → Result Bool Refusal → Type 0
 EmptySays ws r = Unless3 ws (flag_says r ≡ no_by 3) (EmptyOpen ws r)
 
-pub record CleanOpen (ws : List ℕ) (r : FlagAnswer) : Type 0 where
+pub record CleanOpen (ws : List ℕ) (r : Result Bool Refusal) : Type 0 where
   pub exact : flag_says r ≡ yes_with (flag (head_of ws).clean)
   pub sound : (g : Graph) → Holds ws g → flag_says r ≡ yes_with (flag g.clean)
 
-abbrev pub CleanSays : List ℕ → FlagAnswer → Type 0
+abbrev pub CleanSays : List ℕ → Result Bool Refusal → Type 0
 CleanSays ws r = Unless3 ws (flag_says r ≡ no_by 3) (CleanOpen ws r)
 
 module _ (ws : List ℕ) (h : Head) (q : HeadIs (length ws) (hd ws) h) where
-  pub count_open : CountOpen ws (CountIs h.classes)
+  pub count_open : CountOpen ws (Ok h.classes)
   unfolding root
   count_open = record {
     exact = ap (λ (s : Head). yes_with (s.classes ∷ [])) q.is;
     sound = λ g H. let K = holds_in ws h g q H in ap (λ (c : ℕ). yes_with (c ∷ [])) (K.forest.count ∙ ap (class_count g.roots) K.ids_are);
   }
 
-  pub empty_open : (r : FlagAnswer) → flag_says r ≡ yes_with (flag (eqb h.ids 0)) → EmptyOpen ws r
-  empty_open r e = record {
-    exact = e ∙ ap (λ (s : Head). yes_with (flag (eqb s.ids 0))) q.is;
-    sound = λ g H. e ∙ ap (λ (k : ℕ). yes_with (flag (eqb k 0))) (holds_in ws h g q H).ids_are;
+  pub empty_open : EmptyOpen ws (Ok (eqb h.ids 0))
+  empty_open = record {
+    exact = ap (λ (s : Head). yes_with (flag (eqb s.ids 0))) q.is;
+    sound = λ g H. ap (λ (k : ℕ). yes_with (flag (eqb k 0))) (holds_in ws h g q H).ids_are;
   }
 
-  pub clean_open : (r : FlagAnswer) → flag_says r ≡ yes_with (flag h.clean) → CleanOpen ws r
-  clean_open r e = record {
-    exact = e ∙ ap (λ (s : Head). yes_with (flag s.clean)) q.is;
-    sound = λ g H. e ∙ ap (λ (b : Bool). yes_with (flag b)) (holds_in ws h g q H).clean_is;
+  pub clean_open : CleanOpen ws (Ok h.clean)
+  clean_open = record {
+    exact = ap (λ (s : Head). yes_with (flag s.clean)) q.is;
+    sound = λ g H. ap (λ (b : Bool). yes_with (flag b)) (holds_in ws h g q H).clean_is;
   }
-
--- as the code tests them
-pub empty_yes : (k : ℕ) → k ≡ 0 → ◌≡◌ {A = Answer} (yes_with (1 ∷ [])) (yes_with (flag (eqb k 0)))
-empty_yes k e = rw (eq-eqb k 0 e) refl
-
-pub empty_no : (k : ℕ) → k ≢ 0 → ◌≡◌ {A = Answer} (yes_with (0 ∷ [])) (yes_with (flag (eqb k 0)))
-empty_no k e = rw (ne_eqb k 0 e) refl
-
-pub clean_yes : (b : Bool) → b ≡ true → ◌≡◌ {A = Answer} (yes_with (1 ∷ [])) (yes_with (flag b))
-clean_yes b e = rw e refl
-
-pub clean_no : (b : Bool) → b ≡ false → ◌≡◌ {A = Answer} (yes_with (0 ∷ [])) (yes_with (flag b))
-clean_no b e = rw e refl

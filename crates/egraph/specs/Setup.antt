@@ -1,6 +1,7 @@
 -- What `setup` promises: 1 and 2 exactly when document 01 says, with nothing changed; else words that hold the fresh graph.
 -- Assumes nothing.
-use Rattle.std.specs.Prelude.{List, [], ◌≡◌, refl, ◌*◌, ◌<◌, ◌≤◌, ℕ, drop, length}
+use Rattle.egraph.specs.declared.Refusal.{Refusal}
+use Rattle.std.specs.Prelude.{Err, Ok, Result, false, true, List, [], ◌≡◌, refl, ◌*◌, ◌<◌, ◌≤◌, ℕ, drop, length}
 use Rattle.std.proofs.Common.{◌∙◌, ap, subst, sym}
 use native.Mathlib.Omega.{arith}
 use Rattle.std.proofs.Math.Dec.{T}
@@ -12,8 +13,6 @@ use Rattle.cells.specs.Empty.{Cleared, cleared_pool}
 use Rattle.cells.specs.Rows.{fits}
 use Rattle.egraph.specs.Answers.{Else, no_by, pass, setup_says, stop, yes_with}
 use Rattle.egraph.specs.declared.Refusal.TheVariants.{BadLimits, TooFewWords}
-use Rattle.egraph.specs.declared.SetupAnswer.{SetupAnswer}
-use Rattle.egraph.specs.declared.SetupAnswer.TheVariants.{SetupDone, SetupNot}
 use Rattle.holds.specs.Holds.{Holds, HoldsAt}
 use Rattle.holds.specs.HoldsLaws.{false≢true, holds_out}
 use Rattle.holds.specs.MembersLaws.{members_fresh}
@@ -34,7 +33,7 @@ pub record Limits (n m : ℕ) : Type 0 where
   pub n_high : n ≤ 65536
   pub m_high : m ≤ 262144
 
-pub record SetupOpen (ws : List ℕ) (n m : ℕ) (r : SetupAnswer) (ws' : List ℕ) : Type 0 where
+pub record SetupOpen (ws : List ℕ) (n m : ℕ) (r : Result Unit Refusal) (ws' : List ℕ) : Type 0 where
   pub done : setup_says r ≡ yes_with []
   pub size : length ws' ≡ length ws
   pub rest : drop (need n m) ws' ≡ drop (need n m) ws
@@ -42,7 +41,7 @@ pub record SetupOpen (ws : List ℕ) (n m : ℕ) (r : SetupAnswer) (ws' : List �
   pub spare : drop 7 (hd ws') ≡ replicate 25 0
   pub held : Holds ws' fresh
 
-abbrev pub SetupSays : List ℕ → ℕ → ℕ → SetupAnswer → List ℕ → Type 0
+abbrev pub SetupSays : List ℕ → ℕ → ℕ → Result Unit Refusal → List ℕ → Type 0
 SetupSays ws n m r ws' =
     Else (Limits n m → ⊥) ((setup_says r ≡ no_by 1) × (ws' ≡ ws)) (Limits n m)
     (Else (length ws < need n m) ((setup_says r ≡ no_by 2) × (ws' ≡ ws)) (need n m ≤ length ws)
@@ -81,13 +80,13 @@ module _ (n m : ℕ) (v : View) (l : Limits n m) (rl : length v.rows ≡ size n 
 -- ---- how the returns of the code stand on the ladder
 
 module _ (ws : List ℕ) (n m : ℕ) where
-  pub setup_bad : (Limits n m → ⊥) → SetupSays ws n m (SetupNot BadLimits) ws
+  pub setup_bad : (Limits n m → ⊥) → SetupSays ws n m (Err BadLimits) ws
   setup_bad b = stop b (λ x g. x g) (refl, refl)
 
-  pub setup_short : Limits n m → length ws < need n m → SetupSays ws n m (SetupNot TooFewWords) ws
+  pub setup_short : Limits n m → length ws < need n m → SetupSays ws n m (Err TooFewWords) ws
   setup_short l b = pass l (λ x g. x g) (stop b (λ x g. omega arith) (refl, refl))
 
-  pub setup_open : Limits n m → need n m ≤ length ws → (r : SetupAnswer) (ws' : List ℕ) → SetupOpen ws n m r ws' → SetupSays ws n m r ws'
+  pub setup_open : Limits n m → need n m ≤ length ws → (r : Result Unit Refusal) (ws' : List ℕ) → SetupOpen ws n m r ws' → SetupSays ws n m r ws'
   setup_open l b r ws' o = pass l (λ x g. x g) (pass b (λ x g. omega arith) o)
 
 -- the lists of all parts emptied
@@ -111,7 +110,7 @@ emptied n m ws ws1 ws2 ws3 U M T =
 
 -- all of it: the lists, then the scratch part, then the head
 pub set_up : (n m : ℕ) (ws ws1 ws2 ws3 : List ℕ) → Limits n m → need n m ≤ length ws → Emptied n m ws ws1
-    → Lent scratch n m (λ s s'. s' ≡ replicate (6 * n) 0) ws1 ws2 → Noted ws2 ws3 (fresh_head n m) → SetupOpen ws n m SetupDone ws3
+    → Lent scratch n m (λ s s'. s' ≡ replicate (6 * n) 0) ws1 ws2 → Noted ws2 ws3 (fresh_head n m) → SetupOpen ws n m (Ok tt) ws3
 set_up n m ws ws1 ws2 ws3 l fits E S N =
     let v = view n m ws in
     let s = lent_next S E.is in

@@ -4,92 +4,78 @@ ghost use Rattle.layout.specs.Head.{HeadIs};
 ghost use Rattle.layout.specs.View.{hd};
 ghost use Rattle.egraph.specs.ClassLists.{ClassesOpen, ClassesSays, ForOpOpen, ForOpSays, TotalOpen, TotalSays};
 
-use super::{CountAnswer, ListAnswer, Refusal};
+use super::{Refusal, read_head};
 use language::Op;
 use layout::Head;
 
-fn total_open(ws: &[u32], h: Head) -> CountAnswer
+fn total_open(ws: &[u32], h: Head) -> Result<usize, Refusal>
     requires head_is { HeadIs (length ws.now) (hd ws.now) h }
     requires clean_value { h.clean ≡ true }
     ensures { TotalOpen ws.now result }
 {
-    match eclass::count_nodes(ws, h) {
-        eclass::Total::TotalBroken => CountAnswer::CountNot(Refusal::BrokenWords),
-        eclass::Total::TotalIs(t) => CountAnswer::CountIs(t),
-    }
+    let total = eclass::count_nodes(ws, h)?;
+    Ok(total)
 }
 
 // How many nodes the classes have, each class's counted once.
-pub fn total_number_of_nodes(ws: &[u32]) -> CountAnswer
+pub fn total_number_of_nodes(ws: &[u32]) -> Result<usize, Refusal>
     ensures { TotalSays ws.now result }
 {
-    match layout::read_head(ws) {
-        layout::HeadRead::HeadBad => CountAnswer::CountNot(Refusal::BadHead),
-        layout::HeadRead::HeadGood(h) => {
-            if h.clean {
-                return total_open(ws, h);
-            }
-            CountAnswer::CountNot(Refusal::NotRebuilt)
-        }
+    let h = read_head(ws)?;
+    if !h.clean {
+        return Err(Refusal::NotRebuilt);
     }
+    total_open(ws, h)
 }
 
-fn for_op_open(ws: &[u32], h: Head, op: Op, out: &mut [u32]) -> ListAnswer
+fn for_op_open(ws: &[u32], h: Head, op: Op, out: &mut [u32]) -> Result<usize, Refusal>
     requires head_is { HeadIs (length ws.now) (hd ws.now) h }
     requires clean_value { h.clean ≡ true }
     ensures { ForOpOpen ws.now op.0 out.old result out.new }
 {
     if !eclass::check(ws, h) {
-        return ListAnswer::ListNot(Refusal::BrokenWords);
+        return Err(Refusal::BrokenWords);
     }
     let k = eclass::measure_ops(ws, h, op);
     if out.len() < k {
-        return ListAnswer::ListNot(Refusal::TooLong);
+        return Err(Refusal::TooLong);
     }
-    ListAnswer::ListWords(eclass::put_ops(ws, h, op, out))
+    Ok(eclass::put_ops(ws, h, op, out))
 }
 
 // The roots of the classes that have a node with this operator; an operator that was never added gives an empty list.
-pub fn classes_for_op(ws: &[u32], op: Op, out: &mut [u32]) -> ListAnswer
+pub fn classes_for_op(ws: &[u32], op: Op, out: &mut [u32]) -> Result<usize, Refusal>
     ensures { ForOpSays ws.now op.0 out.old result out.new }
 {
-    match layout::read_head(ws) {
-        layout::HeadRead::HeadBad => ListAnswer::ListNot(Refusal::BadHead),
-        layout::HeadRead::HeadGood(h) => {
-            if h.clean {
-                return for_op_open(ws, h, op, out);
-            }
-            ListAnswer::ListNot(Refusal::NotRebuilt)
-        }
+    let h = read_head(ws)?;
+    if !h.clean {
+        return Err(Refusal::NotRebuilt);
     }
+    for_op_open(ws, h, op, out)
 }
 
-fn classes_open(ws: &[u32], h: Head, out: &mut [u32]) -> ListAnswer
+fn classes_open(ws: &[u32], h: Head, out: &mut [u32]) -> Result<usize, Refusal>
     requires head_is { HeadIs (length ws.now) (hd ws.now) h }
     requires clean_value { h.clean ≡ true }
     ensures { ClassesOpen ws.now out.old result out.new }
 {
     if !eclass::check(ws, h) {
-        return ListAnswer::ListNot(Refusal::BrokenWords);
+        return Err(Refusal::BrokenWords);
     }
     let k = eclass::measure_classes(ws, h);
     if out.len() < k {
-        return ListAnswer::ListNot(Refusal::TooLong);
+        return Err(Refusal::TooLong);
     }
-    ListAnswer::ListWords(eclass::put_classes(ws, h, out))
+    Ok(eclass::put_classes(ws, h, out))
 }
 
 // All classes in ascending root id, in words: for each its root, its number of nodes, and these nodes.
-pub fn classes(ws: &[u32], out: &mut [u32]) -> ListAnswer
+pub fn classes(ws: &[u32], out: &mut [u32]) -> Result<usize, Refusal>
     ensures { ClassesSays ws.now out.old result out.new }
 {
-    match layout::read_head(ws) {
-        layout::HeadRead::HeadBad => ListAnswer::ListNot(Refusal::BadHead),
-        layout::HeadRead::HeadGood(h) => {
-            if h.clean {
-                return classes_open(ws, h, out);
-            }
-            ListAnswer::ListNot(Refusal::NotRebuilt)
-        }
+    let h = read_head(ws)?;
+    if !h.clean {
+        return Err(Refusal::NotRebuilt);
     }
+    classes_open(ws, h, out)
 }

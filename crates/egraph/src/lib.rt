@@ -1,93 +1,85 @@
 // The graph: the open calls, over words that the caller lends. Each reads the head into a value, refuses bad input by number, works on the parts, and writes the head
 // back once. Names and argument order follow egg's `EGraph`; `&mut self` is the lent words.
 //
-// What the calls answer is an enum for each kind of answer; specs/Answers.antt gives document 01's number and values for each case.
+// A call answers `Ok` with its value, or `Err` with its refusal; specs/Answers.antt gives document 01's number and values for each answer.
 #![tactic(auto)]
 
 ghost use Rattle.std.specs.Prelude.{◌≡◌, ◌<◌};
-ghost use Rattle.egraph.specs.Answers.{number_of};
+ghost use Rattle.egraph.specs.Answers.{Opens, give_refused, number_of};
+ghost use Rattle.egraph.specs.declared.Refusal.TheVariants.{BrokenWords};
 
-use language::{Id, Node};
+use adding::GiveError;
+use broken::Broken;
+use language::Id;
 use layout::Head;
+use std::error::Error;
+use std::fmt;
 
-// Why a call says no, in the order of document 01's table, 1 to 9.
-#[derive(Clone, Copy)]
+// Why a call says no, by document 01's numbers.
+#[derive(Clone, Copy, Debug, PartialEq, Eq)]
 pub enum Refusal {
-    BadLimits,
-    TooFewWords,
-    BadHead,
-    UnknownId,
-    TooManyChildren,
-    NoRoom,
-    NotRebuilt,
-    TooLong,
-    BrokenWords,
+    BadLimits = 1,
+    TooFewWords = 2,
+    BadHead = 3,
+    UnknownId = 4,
+    TooManyChildren = 5,
+    NoRoom = 6,
+    NotRebuilt = 7,
+    TooLong = 8,
+    BrokenWords = 9,
 }
 
-#[derive(Clone, Copy)]
-pub enum SetupAnswer {
-    SetupDone,
-    SetupNot(Refusal),
+impl Refusal {
+    // Document 01's number.
+    pub fn number(self) -> u32
+        ensures { (result ≡ number_of self) × (result < 10) }
+    {
+        self as u32
+    }
 }
 
-#[derive(Clone, Copy)]
-pub enum FindAnswer {
-    FindRoot(Id),
-    FindNot(Refusal),
+impl fmt::Display for Refusal {
+    fn fmt<W: fmt::Write>(&self, f: &mut fmt::Formatter<W>) -> fmt::Result {
+        match self {
+            Refusal::BadLimits => write!(f, "1: the limits are out of range"),
+            Refusal::TooFewWords => write!(f, "2: the limits need more words"),
+            Refusal::BadHead => write!(f, "3: the words hold no graph"),
+            Refusal::UnknownId => write!(f, "4: an id is unknown"),
+            Refusal::TooManyChildren => write!(f, "5: a node has too many children"),
+            Refusal::NoRoom => write!(f, "6: there is no room for a new id"),
+            Refusal::NotRebuilt => write!(f, "7: the graph is not rebuilt"),
+            Refusal::TooLong => write!(f, "8: a list is longer than the slice lent for it"),
+            Refusal::BrokenWords => write!(f, "9: no calls could have left these words"),
+        }
+    }
 }
 
-#[derive(Clone, Copy)]
-pub enum CountAnswer {
-    CountIs(usize),
-    CountNot(Refusal),
+impl Error for Refusal {}
+
+impl From<Broken> for Refusal {
+    ghost from_gives = { λ _ r. r ≡ BrokenWords };
+
+    fn from(_e: Broken) -> Refusal {
+        Refusal::BrokenWords
+    }
 }
 
-#[derive(Clone, Copy)]
-pub enum FlagAnswer {
-    FlagYes,
-    FlagNo,
-    FlagNot(Refusal),
+impl From<GiveError> for Refusal {
+    ghost from_gives = { λ e r. r ≡ give_refused e };
+
+    fn from(e: GiveError) -> Refusal {
+        match e {
+            GiveError::NoRoom => Refusal::NoRoom,
+            GiveError::BrokenWords => Refusal::BrokenWords,
+        }
+    }
 }
 
-#[derive(Clone, Copy)]
-pub enum UnionAnswer {
-    UnionYes,
-    UnionNo,
-    UnionNot(Refusal),
-}
-
-// The root of the id that the table has for a node, or none.
-#[derive(Clone, Copy)]
-pub enum LookupAnswer {
-    LookupFound(Id),
-    LookupNone,
-    LookupNot(Refusal),
-}
-
-#[derive(Clone, Copy)]
-pub enum AddAnswer {
-    AddId(Id),
-    AddNot(Refusal),
-}
-
-// The head that was read, or why there is none.
-#[derive(Clone, Copy)]
-enum Gate {
-    GateTo(Head),
-    GateNot(Refusal),
-}
-
-#[derive(Clone, Copy)]
-pub enum NodeOut {
-    NodeIs,
-    NodeNot(Refusal),
-}
-
-// A node, which is a leaf of operator 0 where it is refused.
-#[derive(Clone, Copy)]
-pub struct NodeAnswer {
-    pub out: NodeOut,
-    pub node: Node,
+// The numbers in the head of the words.
+fn read_head(ws: &[u32]) -> Result<Head, Refusal>
+    ensures { Opens ws.now result }
+{
+    layout::read_head(ws).ok_or(Refusal::BadHead)
 }
 
 // Where a walk over the nodes of a class stands, from the last back in node order: how many nodes are still to come, and an id that has the next of them.
@@ -95,20 +87,6 @@ pub struct NodeAnswer {
 pub struct Cursor {
     pub left: usize,
     pub id: Id,
-}
-
-// Broken are words that no calls could have produced.
-#[derive(Clone, Copy)]
-pub enum NodesRead {
-    NodesAt(Cursor),
-    NodesBroken,
-}
-
-// How many words of a list were written into the slice that the caller lends for it.
-#[derive(Clone, Copy)]
-pub enum ListAnswer {
-    ListWords(usize),
-    ListNot(Refusal),
 }
 
 pub mod begin;
@@ -143,22 +121,3 @@ pub use adds::{add, add_uncanonical, lookup};
 pub mod rebuilds;
 
 pub use rebuilds::rebuild;
-
-impl Refusal {
-    // Document 01's number.
-    pub fn number(self) -> u32
-        ensures { (result ≡ number_of self) × (result < 10) }
-    {
-        match self {
-            Refusal::BadLimits => 1,
-            Refusal::TooFewWords => 2,
-            Refusal::BadHead => 3,
-            Refusal::UnknownId => 4,
-            Refusal::TooManyChildren => 5,
-            Refusal::NoRoom => 6,
-            Refusal::NotRebuilt => 7,
-            Refusal::TooLong => 8,
-            Refusal::BrokenWords => 9,
-        }
-    }
-}

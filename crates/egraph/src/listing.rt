@@ -5,94 +5,52 @@ ghost use Rattle.layout.specs.Head.{HeadIs};
 ghost use Rattle.layout.specs.View.{hd, view};
 ghost use Rattle.spelling.specs.Listed.{Listed};
 ghost use Rattle.egraph.specs.Stored.{stored};
-ghost use Rattle.egraph.specs.Listing.{NoNode, NodeOpen, NodeSays, RowWords, Measured, NodesOpen, NodesSays};
+ghost use Rattle.egraph.specs.Listing.{NodeOpen, NodeSays, RowWords, Measured, NodesOpen, NodesSays};
 
-use super::{ListAnswer, NodeAnswer, NodeOut, Refusal};
-use language::{Id, Node, Op};
+use super::{Refusal, read_head};
+use language::{Id, Node};
 use layout::Head;
 
-// No node, and why.
-pub fn no_node(why: Refusal) -> NodeAnswer
-    ensures { NoNode why result }
-{
-    let out = NodeOut::NodeNot(why);
-    let leaf = Node::leaf(Op(0), 0);
-    NodeAnswer {
-        out: out,
-        node: leaf,
-    }
-}
-
-fn node_open(ws: &[u32], h: Head, id: Id) -> NodeAnswer
+fn node_open(ws: &[u32], h: Head, id: Id) -> Result<Node, Refusal>
     requires head_is { HeadIs (length ws.now) (hd ws.now) h }
     requires id_lt_ids { id.0 < h.ids }
     ensures { NodeOpen ws.now id.0 result }
 {
-    let f = parts::on_rows::given(ws, h, id);
-    let found = f.out;
-    match found {
-        rows::Fetch::FetchBroken => no_node(Refusal::BrokenWords),
-        rows::Fetch::FetchDone => {
-            let out = NodeOut::NodeIs;
-            let node = f.node;
-            NodeAnswer {
-                out: out,
-                node: node,
-            }
-        }
-    }
+    let node = parts::on_rows::given(ws, h, id)?;
+    Ok(node)
 }
 
 // The node of an id, as it was given.
-pub fn id_to_node(ws: &[u32], id: Id) -> NodeAnswer
+pub fn id_to_node(ws: &[u32], id: Id) -> Result<Node, Refusal>
     ensures { NodeSays ws.now id.0 result }
 {
-    match layout::read_head(ws) {
-        layout::HeadRead::HeadBad => no_node(Refusal::BadHead),
-        layout::HeadRead::HeadGood(h) => {
-            let i = id.0 as usize;
-            if h.ids <= i {
-                return no_node(Refusal::UnknownId);
-            }
-            node_open(ws, h, id)
-        }
+    let h = read_head(ws)?;
+    if h.ids <= id.0 as usize {
+        return Err(Refusal::UnknownId);
     }
+    node_open(ws, h, id)
 }
 
 // How many words the node of an id takes.
-fn row_words(ws: &[u32], h: Head, id: Id) -> ListAnswer
+fn row_words(ws: &[u32], h: Head, id: Id) -> Result<usize, Refusal>
     requires head_is { HeadIs (length ws.now) (hd ws.now) h }
     requires id_lt_ids { id.0 < h.ids }
     ensures { RowWords (view h.n h.m ws.now).rows h.n h.m id.0 result }
 {
-    let f = parts::on_rows::given(ws, h, id);
-    let found = f.out;
-    match found {
-        rows::Fetch::FetchBroken => ListAnswer::ListNot(Refusal::BrokenWords),
-        rows::Fetch::FetchDone => ListAnswer::ListWords(spelling::node_length(f.node)),
-    }
+    let node = parts::on_rows::given(ws, h, id)?;
+    Ok(spelling::node_length(node))
 }
 
 // How many words all stored nodes take, where no row is broken.
-fn measure(ws: &[u32], h: Head) -> ListAnswer
+fn measure(ws: &[u32], h: Head) -> Result<usize, Refusal>
     requires { HeadIs (length ws.now) (hd ws.now) h }
     ensures { Measured (view h.n h.m ws.now).rows h.n h.m h.ids result }
 {
-    let ids = h.ids;
     let mut total: usize = 0;
-    let mut i: usize = 0;
-    while i < ids {
-        match row_words(ws, h, Id(i as u32)) {
-            ListAnswer::ListNot(why) => {
-                return ListAnswer::ListNot(why);
-            }
-            ListAnswer::ListWords(k) => {
-                total += k;
-                i += 1;
-            }
-        }
+    for i in 0..h.ids {
+        total += row_words(ws, h, Id(i as u32))?;
     }
-    ListAnswer::ListWords(total)
+    Ok(total)
 }
 
 // All stored nodes, one after the other.
@@ -101,38 +59,29 @@ fn put_nodes(ws: &[u32], h: Head, out: &mut [u32]) -> usize
     requires ids_in_bounds { length (spell (stored (view h.n h.m ws.now).rows h.n h.m h.ids)) ≤ length out.old }
     ensures { Listed out.old (stored (view h.n h.m ws.now).rows h.n h.m h.ids) result out.new }
 {
-    let ids = h.ids;
     let mut at: usize = 0;
-    let mut i: usize = 0;
-    while i < ids {
-        let f = parts::on_rows::given(ws, h, Id(i as u32));
-        at = spelling::put_node(out, at, f.node);
-        i += 1;
+    for i in 0..h.ids {
+        let node = parts::on_rows::given_or_leaf(ws, h, Id(i as u32));
+        at = spelling::put_node(out, at, node);
     }
     at
 }
 
-fn nodes_open(ws: &[u32], h: Head, out: &mut [u32]) -> ListAnswer
+fn nodes_open(ws: &[u32], h: Head, out: &mut [u32]) -> Result<usize, Refusal>
     requires { HeadIs (length ws.now) (hd ws.now) h }
     ensures { NodesOpen ws.now out.old result out.new }
 {
-    match measure(ws, h) {
-        ListAnswer::ListNot(why) => ListAnswer::ListNot(why),
-        ListAnswer::ListWords(k) => {
-            if out.len() < k {
-                return ListAnswer::ListNot(Refusal::TooLong);
-            }
-            ListAnswer::ListWords(put_nodes(ws, h, out))
-        }
+    let k = measure(ws, h)?;
+    if out.len() < k {
+        return Err(Refusal::TooLong);
     }
+    Ok(put_nodes(ws, h, out))
 }
 
 // The stored nodes in id order, in words.
-pub fn nodes(ws: &[u32], out: &mut [u32]) -> ListAnswer
+pub fn nodes(ws: &[u32], out: &mut [u32]) -> Result<usize, Refusal>
     ensures { NodesSays ws.now out.old result out.new }
 {
-    match layout::read_head(ws) {
-        layout::HeadRead::HeadBad => ListAnswer::ListNot(Refusal::BadHead),
-        layout::HeadRead::HeadGood(h) => nodes_open(ws, h, out),
-    }
+    let h = read_head(ws)?;
+    nodes_open(ws, h, out)
 }

@@ -4,29 +4,22 @@ ghost use Rattle.layout.specs.View.{hd};
 ghost use Rattle.layout.specs.Head.{HeadIs};
 ghost use Rattle.egraph.specs.Rebuilds.{RebuildOpen, RebuildSays};
 
-use super::{CountAnswer, Refusal};
+use super::{Refusal, read_head};
 use layout::Head;
-use taking::Drained;
 
-fn rebuild_open(ws: &mut [u32], h: Head) -> CountAnswer
+fn rebuild_open(ws: &mut [u32], h: Head) -> Result<usize, Refusal>
     requires { HeadIs (length ws.old) (hd ws.old) h }
     ensures { RebuildOpen ws.old result ws.new }
 {
-    match rebuilding::rebuild(ws, h) {
-        Drained::DrainedBroken => CountAnswer::CountNot(Refusal::BrokenWords),
-        Drained::DrainedTo(k, yes, _) => {
-            layout::write_head(ws, k);
-            CountAnswer::CountIs(yes)
-        }
-    }
+    let drained = rebuilding::rebuild(ws, h)?;
+    layout::write_head(ws, drained.head);
+    Ok(drained.yes)
 }
 
 // Every congruence that the unions brought about is drawn, and the class lists are made: the graph is clean. The answer is how many unions that took.
-pub fn rebuild(ws: &mut [u32]) -> CountAnswer
+pub fn rebuild(ws: &mut [u32]) -> Result<usize, Refusal>
     ensures { RebuildSays ws.old result ws.new }
 {
-    match layout::read_head(ws) {
-        layout::HeadRead::HeadBad => CountAnswer::CountNot(Refusal::BadHead),
-        layout::HeadRead::HeadGood(h) => rebuild_open(ws, h),
-    }
+    let h = read_head(ws)?;
+    rebuild_open(ws, h)
 }

@@ -4,45 +4,31 @@ ghost use Rattle.layout.specs.View.{hd};
 ghost use Rattle.layout.specs.Head.{HeadIs};
 ghost use Rattle.egraph.specs.Unions.{UnionOpen, UnionSays};
 
-use super::{Refusal, UnionAnswer};
+use super::{Refusal, read_head};
 use language::Id;
 use layout::Head;
 
 // Both ids known.
-fn union_open(ws: &mut [u32], h: Head, id1: Id, id2: Id) -> UnionAnswer
+fn union_open(ws: &mut [u32], h: Head, id1: Id, id2: Id) -> Result<bool, Refusal>
     requires head_is { HeadIs (length ws.old) (hd ws.old) h }
     requires id1_lt_ids { (id1.0 < h.ids) × (id2.0 < h.ids) }
     ensures { UnionOpen ws.old id1.0 id2.0 result ws.new }
 {
-    match uniting::unite(ws, h, id1, id2) {
-        uniting::United::UnitedBroken => UnionAnswer::UnionNot(Refusal::BrokenWords),
-        uniting::United::UnitedYes(k) => {
-            layout::write_head(ws, k);
-            UnionAnswer::UnionYes
-        }
-        uniting::United::UnitedNo(k) => {
-            layout::write_head(ws, k);
-            UnionAnswer::UnionNo
-        }
-    }
+    let united = uniting::unite(ws, h, id1, id2)?;
+    layout::write_head(ws, united.head);
+    Ok(united.joined)
 }
 
 // The classes of two ids become one: yes, or no if they were one before. The graph is then not clean, even when nothing was joined.
-pub fn union(ws: &mut [u32], id1: Id, id2: Id) -> UnionAnswer
+pub fn union(ws: &mut [u32], id1: Id, id2: Id) -> Result<bool, Refusal>
     ensures { UnionSays ws.old id1.0 id2.0 result ws.new }
 {
-    match layout::read_head(ws) {
-        layout::HeadRead::HeadBad => UnionAnswer::UnionNot(Refusal::BadHead),
-        layout::HeadRead::HeadGood(h) => {
-            let i = id1.0 as usize;
-            let j = id2.0 as usize;
-            if h.ids <= i {
-                return UnionAnswer::UnionNot(Refusal::UnknownId);
-            }
-            if h.ids <= j {
-                return UnionAnswer::UnionNot(Refusal::UnknownId);
-            }
-            union_open(ws, h, id1, id2)
-        }
+    let h = read_head(ws)?;
+    if h.ids <= id1.0 as usize {
+        return Err(Refusal::UnknownId);
     }
+    if h.ids <= id2.0 as usize {
+        return Err(Refusal::UnknownId);
+    }
+    union_open(ws, h, id1, id2)
 }

@@ -1,3 +1,4 @@
+pub mod Opens
 pub mod Priced
 pub mod Cost
 pub mod Form

@@ -1,17 +1,16 @@
 -- The class of an id and its price, with the prices of all classes left in the scratch part: what the two calls of this crate begin with. `price_class` promises that it
 -- writes prices and marks alone, and that on words that hold a clean graph it answers the price in the table that the passes leave, with all in place for a walk.
 -- Assumes nothing.
-use Rattle.std.specs.Prelude.{true, List, [], ◌∷◌, ◌≢◌, ◌≡◌, refl, ◌<◌, ◌≤◌, ℕ, length}
-use Rattle.std.proofs.Math.Option.{Option, none, some}
+use Rattle.std.specs.Prelude.{Err, None, Ok, Option, Result, Some, true, List, [], ◌∷◌, ◌≢◌, ◌≡◌, refl, ◌<◌, ◌≤◌, ℕ, length}
+use Rattle.broken.specs.declared.Broken.{Broken}
+use Rattle.broken.specs.Words.{broken}
 use Rattle.std.proofs.Common.{◌∙◌, ap, sym, arith}
 use Rattle.lists.specs.Tests.{zero_one}
 use Rattle.language.specs.declared.Id.{Id}
 use Rattle.steps.specs.Graph.{Graph, root}
-use Rattle.egraph.specs.Answers.{Answer, find_says, ids_is, never, number_of, yes_with}
+use Rattle.egraph.specs.Answers.{Answer, id_says, ids_is, never, number_of, yes_with}
 use Rattle.egraph.specs.ClassReads.{KidsKnown, classed, classed_ids, classed_root}
 use Rattle.egraph.specs.Reads.{FindSays}
-use Rattle.egraph.specs.declared.FindAnswer.{FindAnswer}
-use Rattle.egraph.specs.declared.FindAnswer.TheVariants.{FindNot, FindRoot}
 use Rattle.egraph.specs.declared.Refusal.{Refusal}
 use Rattle.holds.specs.Holds.{Holds}
 use Rattle.layout.specs.Head.{HeadIs, head_good}
@@ -25,56 +24,53 @@ use Rattle.pricing.specs.Costs.{FindsCosts}
 use Rattle.pricing.specs.Entries.{As, EntryAt, entry_as}
 use Rattle.pricing.specs.Turn.{Scratched}
 use Rattle.pricing.specs.declared.Entry.{Entry}
-use Rattle.pricing.specs.declared.Found.{Found}
-use Rattle.pricing.specs.declared.Found.TheVariants.{CostsBroken, CostsFound}
 use Rattle.walking.specs.Walk.{Ready, ready}
 use Rattle.extract.specs.declared.Priced.{Priced}
-use Rattle.extract.specs.declared.Priced.TheVariants.{PricedBroken, PricedIs}
 
 -- the price of the class of id i
 abbrev pub cost_of : Graph → ℕ → Option (Best ℕ)
 cost_of g i = look (root g.roots i) (table AstSize g)
 
 -- a class without a price is no made graph's; else its root and its price are answered
-abbrev pub PricedAs : Head → Graph → ℕ → Priced → List ℕ → Option (Best ℕ) → Type 0
-PricedAs h g i r ss none = r ≡ PricedBroken
-PricedAs h g i r ss (some b) = (r ≡ PricedIs (record { 0 = root g.roots i }) b.price) × Ready h g (root g.roots i) ss
+abbrev pub PricedAs : Head → Graph → ℕ → Result Priced Broken → List ℕ → Option (Best ℕ) → Type 0
+PricedAs h g i r ss None = r ≡ broken
+PricedAs h g i r ss (Some b) = (r ≡ Ok (record { root = (record { 0 = root g.roots i }); size = b.price })) × Ready h g (root g.roots i) ss
 
-pub record PricesClass (h : Head) (i : ℕ) (ws : List ℕ) (r : Priced) (ws' : List ℕ) : Type 0 where
+pub record PricesClass (h : Head) (i : ℕ) (ws : List ℕ) (r : Result Priced Broken) (ws' : List ℕ) : Type 0 where
   pub only : Scratched h.n h.m ws ws'
-  pub low : (c : Id) (p : ℕ) → r ≡ PricedIs c p → c.0 < h.n
+  pub low : (y : Priced) → r ≡ Ok y → y.root.0 < h.n
   pub law : (g : Graph) → Holds ws g → g.clean ≡ true → KidsKnown g → PricedAs h g i r (view h.n h.m ws').scratch (cost_of g i)
 
-pub priced_not : {A : Type 0} (c : Id) (p : ℕ) → PricedBroken ≡ PricedIs c p → A
-priced_not c p e = zero_one cc
+pub priced_not : {A : Type 0} (y : Priced) → broken ≡ Ok y → A
+priced_not y e = zero_one cc
 
-module _ (h : Head) (i : ℕ) (ws : List ℕ) (q : HeadIs (length ws) (hd ws) h) (hi : i < h.ids) (f : FindAnswer) (F : FindSays ws i f) where
+module _ (h : Head) (i : ℕ) (ws : List ℕ) (q : HeadIs (length ws) (hd ws) h) (hi : i < h.ids) (f : Result Id Refusal) (F : FindSays ws i f) where
   -- what `find` answers on words that hold a graph
-  found : (g : Graph) → Holds ws g → find_says f ≡ yes_with (root g.roots i ∷ [])
+  found : (g : Graph) → Holds ws g → id_says f ≡ yes_with (root g.roots i ∷ [])
   found g H = ((F.on (head_good q)).on (omega (arith, ids_is q))).sound g H
 
-  not_found : (k : Refusal) → f ≡ FindNot k → (g : Graph) → Holds ws g → ⊥
-  not_found k e g H = never (number_of k) (root g.roots i) (sym (found g H) ∙ ap find_says e)
+  not_found : (k : Refusal) → f ≡ Err k → (g : Graph) → Holds ws g → ⊥
+  not_found k e g H = never (number_of k) (root g.roots i) (sym (found g H) ∙ ap id_says e)
 
-  pub price_lost : (k : Refusal) → f ≡ FindNot k → PricesClass h i ws PricedBroken ws
-  price_lost k e = record { only = lent_same ws (λ j l. refl); low = λ c p z. priced_not c p z; law = λ g H c K. absurd (not_found k e g H) }
+  pub price_lost : (k : Refusal) → f ≡ Err k → PricesClass h i ws broken ws
+  price_lost k e = record { only = lent_same ws (λ j l. refl); low = λ p z. priced_not p z; law = λ g H c K. absurd (not_found k e g H) }
 
-  module _ (x : Id) (e : f ≡ FindRoot x) where
+  module _ (x : Id) (e : f ≡ Ok x) where
     root_is : (g : Graph) → Holds ws g → x.0 ≡ root g.roots i
-    root_is g H = let w : ◌≡◌ {A = List ℕ} (x.0 ∷ []) (root g.roots i ∷ []) = ap (λ (a : Answer). a.values) (ap find_says (sym e) ∙ found g H) in cc w
+    root_is g H = let w : ◌≡◌ {A = List ℕ} (x.0 ∷ []) (root g.roots i ∷ []) = ap (λ (a : Answer). a.values) (ap id_says (sym e) ∙ found g H) in cc w
 
-    pub price_stray : h.ids ≤ x.0 → PricesClass h i ws PricedBroken ws
+    pub price_stray : h.ids ≤ x.0 → PricesClass h i ws broken ws
     price_stray off = record {
       only = lent_same ws (λ j l. refl);
-      low = λ c p z. priced_not c p z;
+      low = λ p z. priced_not p z;
       law = λ g H c K. let C = classed ws h g q H c K in absurd (omega (arith, root_is g H, classed_root C i (omega (arith, classed_ids C))));
     }
 
-    module _ (ws1 : List ℕ) (o : Found) (C : FindsCosts h ws o ws1) where
-      pub price_broken : o ≡ CostsBroken → PricesClass h i ws PricedBroken ws1
-      price_broken b = record { only = C.only; low = λ c p z. priced_not c p z; law = λ g H c K. absurd (apart (C.law g H c K).0) }
+    module _ (ws1 : List ℕ) (o : Result Unit Broken) (C : FindsCosts h ws o ws1) where
+      pub price_broken : o ≡ broken → PricesClass h i ws broken ws1
+      price_broken b = record { only = C.only; low = λ p z. priced_not p z; law = λ g H c K. absurd (apart (C.law g H c K).0) }
         where
-          apart : o ≡ CostsFound → ⊥
+          apart : o ≡ Ok tt → ⊥
           apart d = zero_one cc
 
       module _ (y : Entry) (lt : x.0 < h.n) (E : EntryAt h.n (view h.n h.m ws1).scratch x.0 y) where
@@ -82,24 +78,25 @@ module _ (h : Head) (i : ℕ) (ws : List ℕ) (q : HeadIs (length ws) (hd ws) h)
         entry_is : (g : Graph) → Holds ws g → g.clean ≡ true → KidsKnown g → As g y.mark y.price (cost_of g i)
         entry_is g H c K = rw (← root_is g H) (entry_as g h.n (view h.n h.m ws1).scratch (table AstSize g) x.0 y (C.law g H c K).1 lt E)
 
-        pub price_none : y.mark ≡ 0 → PricesClass h i ws PricedBroken ws1
-        price_none z = record { only = C.only; low = λ c p w. priced_not c p w; law = λ g H c K. go g (cost_of g i) (entry_is g H c K) }
+        pub price_none : y.mark ≡ 0 → PricesClass h i ws broken ws1
+        price_none z = record { only = C.only; low = λ p w. priced_not p w; law = λ g H c K. go g (cost_of g i) (entry_is g H c K) }
           where
-            go : (g : Graph) (o : Option (Best ℕ)) → As g y.mark y.price o → PricedAs h g i PricedBroken (view h.n h.m ws1).scratch o
-            go g none A = refl
-            go g (some b) A = absurd (omega (arith, A.marked))
+            go : (g : Graph) (o : Option (Best ℕ)) → As g y.mark y.price o → PricedAs h g i broken (view h.n h.m ws1).scratch o
+            go g None A = refl
+            go g (Some b) A = absurd (omega (arith, A.marked))
 
-        pub price_done : y.mark ≢ 0 → PricesClass h i ws (PricedIs x y.price) ws1
+        pub price_done : y.mark ≢ 0 → PricesClass h i ws (Ok (record { root = x; size = y.price })) ws1
         price_done n = record {
           only = C.only;
-          low = λ c p w. let z : x ≡ c = cc in rw (← z) lt;
+          low = λ p w. let z : record { root = x; size = y.price } ≡ p = cc in rw (← z) lt;
           law = λ g H c K. go g H c K (cost_of g i) refl (entry_is g H c K);
         }
           where
             go : (g : Graph) → Holds ws g → g.clean ≡ true → KidsKnown g → (o : Option (Best ℕ)) → cost_of g i ≡ o → As g y.mark y.price o
-                → PricedAs h g i (PricedIs x y.price) (view h.n h.m ws1).scratch o
-            go g H c K none w A = absurd (n A)
-            go g H c K (some b) w A = (
-              ap (λ (k : ℕ). PricedIs (record { 0 = k }) y.price) (root_is g H) ∙ ap (PricedIs (record { 0 = root g.roots i })) A.price_is,
+                → PricedAs h g i (Ok (record { root = x; size = y.price })) (view h.n h.m ws1).scratch o
+            go g H c K None w A = absurd (n A)
+            go g H c K (Some b) w A = (
+              ap (λ (k : ℕ). (Ok (record { root = (record { 0 = k }); size = y.price }))) (root_is g H)
+                  ∙ ap (λ (p : ℕ). (Ok (record { root = (record { 0 = root g.roots i }); size = p }))) A.price_is,
               ready h ws ws1 o q C g H c K (root g.roots i) b w,
             )

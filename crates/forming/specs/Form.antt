@@ -1,13 +1,16 @@
 -- What `measure_form` and `put_form` promise: on any words a form is measured and written as the nodes at its places, one after the other, and it is refused exactly
 -- where one of them leads astray. On words that hold a listing by the prices of a clean graph, what is written is the words of that listing.
 -- Assumes nothing.
-use Rattle.std.specs.Prelude.{List, [], ◌++◌, ◌∷◌, ◌≡◌, refl, ◌+◌, ◌<◌, ◌≤◌, suc, zero, ℕ, length, take}
+use Rattle.broken.specs.declared.Broken.{Broken}
+use Rattle.broken.specs.Words.{broken}
+use Rattle.std.specs.Prelude.{Ok, Result, List, [], ◌++◌, ◌∷◌, ◌≡◌, refl, ◌+◌, ◌<◌, ◌≤◌, suc, zero, ℕ, length, take}
 use Rattle.std.proofs.Common.{◌∙◌, ap, subst, sym, add-one, arith, take-suc}
 use Rattle.std.proofs.Math.Decide.{ℕ_discrete}
 use Rattle.std.proofs.Math.Seq.{take-length}
 use Rattle.lists.specs.Tests.{zero_one}
 use Rattle.language.specs.Struct.{node_of}
-use Rattle.language.specs.Term.{Term, places, spell, words}
+use Rattle.language.specs.Term.{Term, spell, words}
+use Rattle.language.specs.declared.Node.{Node}
 use Rattle.steps.specs.Graph.{Graph, node}
 use Rattle.egraph.specs.ClassReads.{Classed}
 use Rattle.spelling.specs.Pieces.{Wrote, long_more, pieces, pieces_more, pieces_next, pieces_none, pieces_room, wrote}
@@ -22,11 +25,6 @@ use Rattle.spelling.specs.Listed.{spell_snoc}
 use Rattle.spelling.specs.Puts.{Puts}
 use Rattle.forming.specs.FormNode.{FineNode, NodeAt, form_node, form_piece, node_fine, node_is}
 use Rattle.forming.specs.Kept.{Kept}
-use Rattle.forming.specs.Placed.{done≢broken}
-use Rattle.forming.specs.declared.FormLength.{FormLength}
-use Rattle.forming.specs.declared.FormLength.TheVariants.{FormLengthBroken, FormLengthIs}
-use Rattle.forming.specs.declared.Placed.{Placed}
-use Rattle.forming.specs.declared.Placing.TheVariants.{PlacingBroken, PlacingDone}
 
 -- all of the first k places
 abbrev pub FineForm : Head → View → ℕ → Type 0
@@ -34,75 +32,54 @@ FineForm h v k = (p : ℕ) → p < k → FineNode h v p
 
 -- ---- measured
 
-pub record NodeMeasured (h : Head) (v : View) (p : ℕ) (r : FormLength) : Type 0 where
-  pub whole : (x : ℕ) → r ≡ FormLengthIs x → x ≡ length (form_piece h v p)
-  pub few : (x : ℕ) → r ≡ FormLengthIs x → x ≤ 3 + places
-  pub fine : (x : ℕ) → r ≡ FormLengthIs x → FineNode h v p
-  pub broken : r ≡ FormLengthBroken → FineNode h v p → ⊥
+pub record FormMeasured (h : Head) (v : View) (k : ℕ) (r : Result ℕ Broken) : Type 0 where
+  pub whole : (x : ℕ) → r ≡ Ok x → x ≡ length (pieces (form_piece h v) k)
+  pub fine : (x : ℕ) → r ≡ Ok x → FineForm h v k
+  pub broken : r ≡ broken → FineForm h v k → ⊥
 
-pub record FormMeasured (h : Head) (v : View) (k : ℕ) (r : FormLength) : Type 0 where
-  pub whole : (x : ℕ) → r ≡ FormLengthIs x → x ≡ length (pieces (form_piece h v) k)
-  pub fine : (x : ℕ) → r ≡ FormLengthIs x → FineForm h v k
-  pub broken : r ≡ FormLengthBroken → FineForm h v k → ⊥
-
-pub broken_is : {A : Type 0} (x : ℕ) → FormLengthBroken ≡ FormLengthIs x → A
+pub broken_is : {A : Type 0} (x : ℕ) → broken ≡ Ok x → A
 broken_is x e = zero_one cc
-
-module _ (h : Head) (v : View) (p : ℕ) (f : Placed) (N : NodeAt h v p f) where
-  pub words_broken : f.out ≡ PlacingBroken → NodeMeasured h v p FormLengthBroken
-  words_broken e = record {
-    whole = λ x q. broken_is x q;
-    few = λ x q. broken_is x q;
-    fine = λ x q. broken_is x q;
-    broken = λ _ F. done≢broken (sym (N.done F).0 ∙ e);
-  }
-
-  pub words_whole : (x : ℕ) → f.out ≡ PlacingDone → (x ≡ length (words (node_of f.node))) × (x ≡ 3 + f.node.count) → NodeMeasured h v p (FormLengthIs x)
-  words_whole x e w = record {
-    whole = λ y q. let s : y ≡ x = cc in s ∙ rw (← (N.done (N.only e)).1) w.0;
-    few = λ y q. let s : y ≡ x = cc in omega (arith, w.1, N.few);
-    fine = λ y q. N.only e;
-    broken = λ q. broken_is x (sym q);
-  }
 
 module _ (h : Head) (v : View) where
   pub fine_none : FineForm h v 0
   fine_none p lt = absurd (omega arith)
 
-  module _ (p : ℕ) (r : FormLength) (M : NodeMeasured h v p r) where
-    pub measure_more : (total x : ℕ) → r ≡ FormLengthIs x → total ≡ length (pieces (form_piece h v) p) → total + x ≡ length (pieces (form_piece h v) (p + 1))
-    measure_more total x e t = long_more (form_piece h v) p total x t (M.whole x e)
-
-    pub fine_more : (x : ℕ) → r ≡ FormLengthIs x → FineForm h v p → FineForm h v (p + 1)
-    fine_more x e F q lt = go (ℕ_discrete q p)
-      where
-        go : Dec (q ≡ p) → FineNode h v q
-        go (yes i) = rw i (M.fine x e)
-        go (no i) = F q (omega arith)
-
-    pub measure_broken : (k : ℕ) → p < k → r ≡ FormLengthBroken → FormMeasured h v k FormLengthBroken
-    measure_broken k lt e = record { whole = λ x q. broken_is x q; fine = λ x q. broken_is x q; broken = λ _ F. M.broken e (F p lt) }
-
-  pub measure_whole : (k p total : ℕ) → p ≡ k → total ≡ length (pieces (form_piece h v) p) → FineForm h v p → FormMeasured h v k (FormLengthIs total)
-  measure_whole k p total e t F = record {
-    whole = λ x q. let s : x ≡ total = cc in s ∙ rw (← e) t;
-    fine = λ x q. rw e at F;
+  pub measure_whole : (k total : ℕ) → total ≡ length (pieces (form_piece h v) k) → FineForm h v k → FormMeasured h v k (Ok total)
+  measure_whole k total t F = record {
+    whole = λ x q. let s : x ≡ total = cc in s ∙ t;
+    fine = λ x q. F;
     broken = λ q. broken_is total (sym q);
   }
 
-  -- ---- written
+  module _ (p : ℕ) (r : Result Node Broken) (N : NodeAt h v p r) where
+    pub measure_broken : (k : ℕ) → p < k → r ≡ broken → FormMeasured h v k broken
+    measure_broken k lt e = record { whole = λ x q. broken_is x q; fine = λ x q. broken_is x q; broken = λ _ F. N.lost e (F p lt) }
 
-  module _ (p : ℕ) (f : Placed) (N : NodeAt h v p f) (F : FineNode h v p) (out mid : List ℕ) (a : ℕ) (W : Wrote out 0 (pieces (form_piece h v) p) a mid) where
-    piece_is : words (node_of f.node) ≡ form_piece h v p
-    piece_is = ap words (N.done F).1
+    module _ (x : Node) (e : r ≡ Ok x) where
+      piece_is : words (node_of x) ≡ form_piece h v p
+      piece_is = ap words (N.exact x e)
 
-    pub put_room : (k : ℕ) → p < k → length (pieces (form_piece h v) k) ≤ length out → a + length (words (node_of f.node)) ≤ length mid
-    put_room k lt fits = subst (λ (xs : List ℕ). a + length xs ≤ length mid) (sym piece_is) (pieces_room (form_piece h v) out p a mid W k lt fits)
+      pub measure_more : (total y : ℕ) → y ≡ length (words (node_of x)) → total ≡ length (pieces (form_piece h v) p)
+          → total + y ≡ length (pieces (form_piece h v) (p + 1))
+      measure_more total y w t = long_more (form_piece h v) p total y t (w ∙ ap length piece_is)
 
-    pub put_next : (r : ℕ) (out' : List ℕ) → Puts mid a f.node r out' → Wrote out 0 (pieces (form_piece h v) (p + 1)) r out'
-    put_next r out' d =
-        pieces_next (form_piece h v) out p a mid W r out'
-        (rw piece_is at (wrote mid a (words (node_of f.node)) r out' d.exact d.next))
+      pub fine_more : FineForm h v p → FineForm h v (p + 1)
+      fine_more F q lt = go (ℕ_discrete q p)
+        where
+          go : Dec (q ≡ p) → FineNode h v q
+          go (yes i) = rw i (N.only x e)
+          go (no i) = F q (omega arith)
+
+      -- ---- written
+
+      module _ (out mid : List ℕ) (a : ℕ) (W : Wrote out 0 (pieces (form_piece h v) p) a mid) where
+        pub put_room : (k : ℕ) → p < k → length (pieces (form_piece h v) k) ≤ length out → a + length (words (node_of x)) ≤ length mid
+        put_room k lt fits = subst (λ (xs : List ℕ). a + length xs ≤ length mid) (sym piece_is) (pieces_room (form_piece h v) out p a mid W k lt fits)
+
+        pub put_next : (s : ℕ) (out' : List ℕ) → Puts mid a x s out' → Wrote out 0 (pieces (form_piece h v) (p + 1)) s out'
+        put_next s out' d =
+            pieces_next (form_piece h v) out p a mid W s out'
+            (rw piece_is at (wrote mid a (words (node_of x)) s out' d.exact d.next))
 
 -- ---- on words that hold a listing
 

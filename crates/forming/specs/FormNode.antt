@@ -1,20 +1,20 @@
 -- The node at a place of the listing, as the words say it: the class at the place, the id that its mark names, the node of that id, with the places of its children.
 -- `NodeAt` is what `form_node` promises on any words; on words that hold a clean graph, its prices and a listing by them it is the node of the listing.
 -- Assumes nothing.
-use Rattle.std.specs.Prelude.{List, ◌≢◌, ◌≡◌, ◌*◌, ◌+◌, ◌-◌, ◌<◌, ◌^◌, ◌≤◌, suc, ℕ, length}
-use Rattle.std.proofs.Math.Option.{some}
+use Rattle.std.specs.Prelude.{IsOk, Ok, Err, Result, Some, List, ◌≢◌, ◌≡◌, ◌*◌, ◌+◌, ◌-◌, ◌<◌, ◌≤◌, suc, ℕ, length}
+use Rattle.broken.specs.declared.Broken.{Broken}
+use Rattle.broken.specs.Words.{broken}
 use Rattle.std.proofs.Common.{◌∙◌, subst, arith}
 use Rattle.std.proofs.Math.Path.{ap, refl, sym}
 use Rattle.lists.specs.Members.{mem_at}
 use Rattle.lists.specs.Reads.{at, map_at}
+use Rattle.lists.specs.Tests.{zero_one}
 use Rattle.language.specs.Struct.{node_of}
 use Rattle.language.specs.Term.{Term, over_kids, places, term_path, words}
+use Rattle.language.specs.declared.Id.{Id}
+use Rattle.language.specs.declared.Node.{Node}
 use Rattle.steps.specs.Graph.{Graph, node}
-use Rattle.egraph.specs.ClassReads.{Classed, Readable, RootNode, classed_kids, classed_node, root_node_in, root_node_not}
-use Rattle.egraph.specs.declared.NodeAnswer.{NodeAnswer}
-use Rattle.egraph.specs.declared.NodeOut.{NodeOut}
-use Rattle.egraph.specs.declared.NodeOut.TheVariants.{NodeIs, NodeNot}
-use Rattle.egraph.specs.declared.Refusal.{Refusal}
+use Rattle.egraph.specs.ClassReads.{Classed, Readable, RootNode, classed_kids, classed_node, root_node_in}
 use Rattle.layout.specs.Lent.{Loaded}
 use Rattle.layout.specs.View.{View}
 use Rattle.layout.specs.declared.Head.{Head}
@@ -24,9 +24,7 @@ use Rattle.price.specs.Shown.{in_order_at}
 use Rattle.pricing.specs.Entries.{Names, Prices, joined}
 use Rattle.pricing.specs.Laid.{Laid, class_at, place_word}
 use Rattle.forming.specs.Kept.{AtPlace, Kept}
-use Rattle.forming.specs.Placed.{HasPlace, KidsPlaced, NoNode, WithPlaces, not_done, place_at}
-use Rattle.forming.specs.declared.Placed.{Placed}
-use Rattle.forming.specs.declared.Placing.TheVariants.{PlacingDone}
+use Rattle.forming.specs.Placed.{HasPlace, KidsPlaced, WithPlaces, broken_is, place_at}
 
 -- ---- on any words
 
@@ -52,59 +50,73 @@ pub record FineNode (h : Head) (v : View) (p : ℕ) : Type 0 where
   pub readable : Readable h v (mark_of v.scratch h.n p - 1)
   pub kids : KidsPlaced h.n v.scratch (its_node h v p)
 
-pub record NodeAt (h : Head) (v : View) (p : ℕ) (r : Placed) : Type 0 where
-  pub few : r.node.count ≤ places
-  pub done : FineNode h v p → (r.out ≡ PlacingDone) × (node_of r.node ≡ form_node h v p)
-  pub only : r.out ≡ PlacingDone → FineNode h v p
+pub record NodeAt (h : Head) (v : View) (p : ℕ) (r : Result Node Broken) : Type 0 where
+  pub few : (x : Node) → r ≡ Ok x → x.count ≤ places
+  pub exact : (x : Node) → r ≡ Ok x → node_of x ≡ form_node h v p
+  pub only : (x : Node) → r ≡ Ok x → FineNode h v p
+  pub lost : r ≡ broken → FineNode h v p → ⊥
 
--- ---- the mark
+-- where nothing leads astray there is a node
+pub node_there : (h : Head) (v : View) (p : ℕ) (r : Result Node Broken) → NodeAt h v p r → FineNode h v p → IsOk r
+node_there h v p (Ok x) N F = refl
+node_there h v p (Err _) N F = absurd (N.lost refl F)
 
-pub record MarkAt (n : ℕ) (ss : List ℕ) (p r : ℕ) : Type 0 where
-  pub low : r < 2 ^ 32
-  pub class_low : r ≢ 0 → at ss (4 * n + p) < n
-  pub is : at ss (4 * n + p) < n → r ≡ mark_of ss n p
+-- ---- the id that the mark names
+
+pub record ChosenAt (n : ℕ) (ss : List ℕ) (p : ℕ) (r : Result Id Broken) : Type 0 where
+  pub found : (i : Id) → r ≡ Ok i → (at ss (4 * n + p) < n) × (0 < mark_of ss n p) × (i.0 ≡ mark_of ss n p - 1)
+  pub lost : r ≡ broken → at ss (4 * n + p) < n → 0 < mark_of ss n p → ⊥
+
+none_chosen : {A : Type 0} (i : Id) → broken ≡ Ok i → A
+none_chosen i e = zero_one cc
 
 module _ (n : ℕ) (ss : List ℕ) (p c : ℕ) (L : Loaded ss (4 * n + p) c) where
-  pub mark_none : n ≤ c → MarkAt n ss p 0
-  mark_none h = record { low = omega arith; class_low = λ e. absurd (e refl); is = λ l. absurd (omega (arith, L.is)) }
+  pub chosen_stray : n ≤ c → ChosenAt n ss p broken
+  chosen_stray h = record { found = λ i e. none_chosen i e; lost = λ _ l m. omega (arith, L.is) }
 
-  pub mark_is : (w : ℕ) → c < n → Loaded ss (2 * n + c) w → MarkAt n ss p w
-  mark_is w h M = record { low = M.low; class_low = λ _. omega (arith, L.is); is = λ _. M.is ∙ ap (λ (d : ℕ). at ss (2 * n + d)) L.is }
+  module _ (w : ℕ) (M : Loaded ss (2 * n + c) w) where
+    mark : w ≡ mark_of ss n p
+    mark = M.is ∙ ap (λ (d : ℕ). at ss (2 * n + d)) L.is
+
+    pub chosen_unmarked : w ≡ 0 → ChosenAt n ss p broken
+    chosen_unmarked z = record { found = λ i e. none_chosen i e; lost = λ _ l m. omega (arith, mark) }
+
+    pub chosen_is : c < n → w ≢ 0 → (i : Id) → i.0 ≡ w - 1 → ChosenAt n ss p (Ok i)
+    chosen_is h s i is = record {
+      found = λ j e. let q : i ≡ j = cc in (omega (arith, L.is), omega (arith, mark), rw (← q) (is ∙ ap (λ (d : ℕ). d - 1) mark));
+      lost = λ e. none_chosen i (sym e);
+    }
 
 -- ---- the node
 
-module _ (h : Head) (v : View) (p w : ℕ) (M : MarkAt h.n v.scratch p w) where
-  -- the mark that was read, where nothing leads astray
-  its_mark : FineNode h v p → w ≡ mark_of v.scratch h.n p
-  its_mark F = M.is F.class_low
+refuse : (h : Head) (v : View) (p : ℕ) → (FineNode h v p → ⊥) → NodeAt h v p broken
+refuse h v p b = record { few = λ x e. broken_is x e; exact = λ x e. broken_is x e; only = λ x e. broken_is x e; lost = λ _ F. b F }
 
-  pub node_unmarked : w ≡ 0 → (r : Placed) → NoNode r → NodeAt h v p r
-  node_unmarked z r N = record { few = N.few; done = λ F. absurd (omega (arith, its_mark F, F.marked)); only = λ e. not_done r N e }
+module _ (h : Head) (v : View) (p : ℕ) (o : Result Id Broken) (C : ChosenAt h.n v.scratch p o) where
+  pub node_unchosen : o ≡ broken → NodeAt h v p broken
+  node_unchosen e = refuse h v p (λ F. C.lost e F.class_low F.marked)
 
-  module _ (some_mark : w ≢ 0) (f : NodeAnswer) (K : RootNode h v (w - 1) f) where
-    mark : w ≡ mark_of v.scratch h.n p
-    mark = M.is (M.class_low some_mark)
+  module _ (i : Id) (e : o ≡ Ok i) (f : Result Node Broken) (K : RootNode h v i.0 f) where
+    chosen_id : i.0 ≡ mark_of v.scratch h.n p - 1
+    chosen_id = (C.found i e).2
 
-    pub node_unread : (o : NodeOut) (k : Refusal) → o ≡ f.out → o ≡ NodeNot k → (r : Placed) → NoNode r → NodeAt h v p r
-    node_unread o k eo q r N = record {
-      few = N.few;
-      done = λ F. absurd (root_node_not K o k eo q (rw mark F.readable));
-      only = λ e. not_done r N e;
-    }
+    pub node_unread : f ≡ broken → NodeAt h v p broken
+    node_unread q = refuse h v p (λ F. K.lost q (rw chosen_id F.readable))
 
-    pub node_placed : (o : NodeOut) → o ≡ f.out → o ≡ NodeIs → (r : Placed) → WithPlaces h.n v.scratch (node_of f.node) r → NodeAt h v p r
-    unfolding form_node
-    node_placed o eo q r W = record {
-      few = W.few;
-      done = λ F. let k = W.done (rw its F.kids) in (k.0, k.1 ∙ ap (over_kids (place_at h.n v.scratch)) its);
-      only = λ e. record { class_low = M.class_low some_mark; marked = omega (arith, mark); readable = rw (← mark) fine; kids = rw its at (W.only e) };
-    }
-      where
-        fine : Readable h v (w - 1)
-        fine = K.only (sym eo ∙ q)
+    module _ (y : Node) (q : f ≡ Ok y) where
+      its : node_of y ≡ its_node h v p
+      its = (K.found y q).1.exact ∙ ap (root_node_in h v) chosen_id
 
-        its : node_of f.node ≡ its_node h v p
-        its = (K.done fine).1 ∙ ap (λ (i : ℕ). root_node_in h v (i - 1)) mark
+      pub node_placed : (r : Result Node Broken) → WithPlaces h.n v.scratch (node_of y) r → NodeAt h v p r
+      unfolding form_node
+      node_placed r W = record {
+        few = W.few;
+        exact = λ x w. W.exact x w ∙ ap (over_kids (place_at h.n v.scratch)) its;
+        only = λ x w.
+            let k = C.found i e in
+            record { class_low = k.0; marked = k.1; readable = rw (← chosen_id) (K.found y q).0; kids = rw its at (W.only x w) };
+        lost = λ w F. W.lost w (rw its F.kids);
+      }
 
 -- ---- on words that hold a listing
 
@@ -135,7 +147,7 @@ module _ (h : Head) (v : View) (g : Graph) (t : Table ℕ) (l : Listing) (few : 
     node_read = ap (λ (i : ℕ). root_node_in h v i) id_is ∙ ((classed_node C named.id named.known).1 ∙ named.node_is)
 
     -- the place word of a child
-    place_is : (c : ℕ) → c < n → (q : ℕ) → spot c l ≡ some q → at ss (3 * n + c) ≡ suc q
+    place_is : (c : ℕ) → c < n → (q : ℕ) → spot c l ≡ Some q → at ss (3 * n + c) ≡ suc q
     place_is c lt q e = L.places c lt ∙ ap place_word e
 
     kid_low : (i : ℕ) → i < length here.best.node.kids → at here.best.node.kids i < n

@@ -1,8 +1,10 @@
 -- A node with each child replaced by the place of its class, as the scratch words say it: what a loop over the children has done after i of them, and what `with_places`
 -- promises on any words.
 -- Assumes nothing.
-use Rattle.std.specs.Prelude.{List, ◌≢◌, ◌≡◌, refl, ◌*◌, ◌+◌, ◌-◌, ◌<◌, ◌≤◌, ℕ, length}
-use Rattle.std.proofs.Common.{◌∙◌, ap, arith}
+use Rattle.std.specs.Prelude.{Ok, Result, List, ◌≢◌, ◌≡◌, ◌*◌, ◌+◌, ◌-◌, ◌<◌, ◌≤◌, ℕ, length}
+use Rattle.broken.specs.declared.Broken.{Broken}
+use Rattle.broken.specs.Words.{broken}
+use Rattle.std.proofs.Common.{◌∙◌, ap, sym, arith}
 use Rattle.lists.specs.Reads.{at}
 use Rattle.lists.specs.Tests.{zero_one}
 use Rattle.language.specs.Partway.{Partway, partway_all, partway_more}
@@ -10,8 +12,6 @@ use Rattle.language.specs.Struct.{node_of}
 use Rattle.language.specs.Term.{Term, over_kids, places, rekid}
 use Rattle.language.specs.declared.Node.{Node}
 use Rattle.layout.specs.Lent.{Loaded}
-use Rattle.forming.specs.declared.Placed.{Placed}
-use Rattle.forming.specs.declared.Placing.TheVariants.{PlacingBroken, PlacingDone}
 
 -- the place of class c
 abbrev pub place_at : ℕ → List ℕ → ℕ → ℕ
@@ -24,22 +24,18 @@ HasPlace n ss c = (c < n) × (0 < at ss (3 * n + c))
 abbrev pub KidsPlaced : ℕ → List ℕ → Term → Type 0
 KidsPlaced n ss x = (i : ℕ) → i < length x.kids → HasPlace n ss (at x.kids i)
 
--- what stands beside a refusal
-pub record NoNode (r : Placed) : Type 0 where
-  pub few : r.node.count ≤ places
-  pub not : r.out ≡ PlacingBroken
+pub broken_is : {A : Type 0} (y : Node) → broken ≡ Ok y → A
+broken_is y e = zero_one cc
 
-pub record WithPlaces (n : ℕ) (ss : List ℕ) (x : Term) (r : Placed) : Type 0 where
-  pub few : r.node.count ≤ places
-  pub done : KidsPlaced n ss x → (r.out ≡ PlacingDone) × (node_of r.node ≡ over_kids (place_at n ss) x)
-  pub only : r.out ≡ PlacingDone → KidsPlaced n ss x
-
-pub done≢broken : PlacingDone ≡ PlacingBroken → ⊥
-done≢broken e = zero_one cc
+pub record WithPlaces (n : ℕ) (ss : List ℕ) (x : Term) (r : Result Node Broken) : Type 0 where
+  pub few : (y : Node) → r ≡ Ok y → y.count ≤ places
+  pub exact : (y : Node) → r ≡ Ok y → node_of y ≡ over_kids (place_at n ss) x
+  pub only : (y : Node) → r ≡ Ok y → KidsPlaced n ss x
+  pub lost : r ≡ broken → KidsPlaced n ss x → ⊥
 
 -- refused, where it must be
-pub not_done : (r : Placed) → NoNode r → {A : Type 0} → r.out ≡ PlacingDone → A
-not_done r N e = zero_one (cc (e, N.not))
+refuse : (n : ℕ) (ss : List ℕ) (x : Term) → (KidsPlaced n ss x → ⊥) → WithPlaces n ss x broken
+refuse n ss x b = record { few = λ y e. broken_is y e; exact = λ y e. broken_is y e; only = λ y e. broken_is y e; lost = λ _ K. b K }
 
 -- ---- the loop
 
@@ -52,15 +48,15 @@ module _ (n : ℕ) (ss : List ℕ) (x : Term) where
     kid : c ≡ at x.kids i
     kid = is ∙ A.rest i (omega arith)
 
-    pub places_stray : n ≤ c → (r : Placed) → NoNode r → WithPlaces n ss x r
-    places_stray off r N = record { few = N.few; done = λ K. absurd (omega (arith, kid, (K i hi).0)); only = λ e. not_done r N e }
+    pub places_stray : n ≤ c → WithPlaces n ss x broken
+    places_stray off = refuse n ss x (λ K. omega (arith, kid, (K i hi).0))
 
     module _ (w : ℕ) (L : Loaded ss (3 * n + c) w) where
       word : w ≡ at ss (3 * n + at x.kids i)
       word = L.is ∙ ap (λ (d : ℕ). at ss (3 * n + d)) kid
 
-      pub places_none : w ≡ 0 → (r : Placed) → NoNode r → WithPlaces n ss x r
-      places_none z r N = record { few = N.few; done = λ K. absurd (omega (arith, word, (K i hi).1)); only = λ e. not_done r N e }
+      pub places_none : w ≡ 0 → WithPlaces n ss x broken
+      places_none z = refuse n ss x (λ K. omega (arith, word, (K i hi).1))
 
       -- one child more
       pub places_more : (s' : Term) → c < n → w ≢ 0 → s' ≡ rekid s i (w - 1) → Partway (PlaceIs n ss) (i + 1) x s'
@@ -68,9 +64,10 @@ module _ (n : ℕ) (ss : List ℕ) (x : Term) where
           partway_more (PlaceIs n ss) x i s A (w - 1) s' hi ((omega (arith, kid), omega (arith, word)), ap (λ (d : ℕ). d - 1) word) es
 
   -- all of them
-  pub places_done : (i : ℕ) (y : Node) → i ≡ length x.kids → y.count ≤ places → Partway (PlaceIs n ss) i x (node_of y) → WithPlaces n ss x (record { out = PlacingDone; node = y })
+  pub places_done : (i : ℕ) (y : Node) → i ≡ length x.kids → y.count ≤ places → Partway (PlaceIs n ss) i x (node_of y) → WithPlaces n ss x (Ok y)
   places_done i y e f A = record {
-    few = f;
-    done = λ K. (refl, partway_all _ _ _ _ A (place_at n ss) e (λ c k q. q.1));
-    only = λ _ j l. (A.done j (omega arith)).0;
+    few = λ z q. let w : y ≡ z = cc in rw (← w) f;
+    exact = λ z q. let w : y ≡ z = cc in rw (← w) (partway_all _ _ _ _ A (place_at n ss) e (λ c k q. q.1));
+    only = λ z q j l. (A.done j (omega arith)).0;
+    lost = λ q. broken_is y (sym q);
   }

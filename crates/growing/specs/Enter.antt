@@ -1,14 +1,12 @@
 -- The new id goes into the table under its key, which the table does not have.
 -- Assumes nothing.
-use Rattle.std.specs.Prelude.{List, ◌≡◌, refl, ◌<◌, ℕ}
-use Rattle.std.proofs.Math.Option.{none}
+use Rattle.std.specs.Prelude.{Ok, Result, List, ◌≡◌, refl, ◌<◌, ℕ, None}
+use Rattle.broken.specs.declared.Broken.{Broken}
 use Rattle.std.proofs.Common.{◌∙◌, ap, subst, arith}
 use Rattle.language.specs.Term.{Term, term_at}
 use Rattle.steps.specs.Graph.{Graph, kept}
 use Rattle.steps.specs.Machine.{keyed}
 use Rattle.closure.specs.Tables.{Live}
-use Rattle.cells.specs.declared.Change.{Change}
-use Rattle.cells.specs.declared.Change.TheVariants.{ChangeDone}
 use Rattle.holds.specs.Holds.{HoldsAt}
 use Rattle.holds.specs.Inside.{Inside, inside_lent}
 use Rattle.holds.specs.NodesLaws.{nodes_enter}
@@ -28,9 +26,9 @@ pub record Waits (h : Head) (u : ℕ) (v : View) (g : Graph) (i : ℕ) (k : Term
   pub key : term_at holds.nodes.keys i ≡ k
 
 -- over a view
-pub enter_holds : (h : Head) (u i : ℕ) (k : Term) (v : View) (g : Graph) → Waits h u v g i k → Live g.roots k → kept k g.memo ≡ none
-    → (ts : List ℕ) (r : Change) → Entered v.table ts h.n (bucket_of h.n k) i r
-    → (r ≡ ChangeDone) × HoldsAt h u (put table v ts) (keyed g k i)
+pub enter_holds : (h : Head) (u i : ℕ) (k : Term) (v : View) (g : Graph) → Waits h u v g i k → Live g.roots k → kept k g.memo ≡ None
+    → (ts : List ℕ) (r : Result Unit Broken) → Entered v.table ts h.n (bucket_of h.n k) i r
+    → (r ≡ Ok tt) × HoldsAt h u (put table v ts) (keyed g k i)
 enter_holds h u i k v g W live free ts r E =
     let H = W.holds in
     let q = nodes_enter h.n h.m v.rows v.table g.nodes g.roots g.memo H.nodes i k ts r (omega (arith, W.low, H.ids_are)) W.out W.key live free E in (
@@ -53,12 +51,12 @@ enter_holds h u i k v g W live free ts r E =
     )
 
 -- what `enter` promises
-pub record Enters (h : Head) (i : ℕ) (k : Term) (r : Change) (ws ws' : List ℕ) : Type 0 where
+pub record Enters (h : Head) (i : ℕ) (k : Term) (r : Result Unit Broken) (ws ws' : List ℕ) : Type 0 where
   pub inside : Inside h.n h.m ws ws'
-  pub sound : (g : Graph) (u : ℕ) → Waits h u (view h.n h.m ws) g i k → Live g.roots k → kept k g.memo ≡ none
-      → (r ≡ ChangeDone) × HoldsAt h u (view h.n h.m ws') (keyed g k i)
+  pub sound : (g : Graph) (u : ℕ) → Waits h u (view h.n h.m ws) g i k → Live g.roots k → kept k g.memo ≡ None
+      → (r ≡ Ok tt) × HoldsAt h u (view h.n h.m ws') (keyed g k i)
 
-pub enters : (ws ws' : List ℕ) (h : Head) (i b : ℕ) (k : Term) (r : Change) → Lands h.n k b → Lent table h.n h.m (λ w w'. Entered w w' h.n b i r) ws ws' → Enters h i k r ws ws'
+pub enters : (ws ws' : List ℕ) (h : Head) (i b : ℕ) (k : Term) (r : Result Unit Broken) → Lands h.n k b → Lent table h.n h.m (λ w w'. Entered w w' h.n b i r) ws ws' → Enters h i k r ws ws'
 enters ws ws' h i b k r B L =
     let a = lent_next (subst (λ (z : ℕ). Lent table h.n h.m (λ w w'. Entered w w' h.n z i r) ws ws') B.exact L) refl in
     record {

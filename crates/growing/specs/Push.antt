@@ -1,14 +1,12 @@
 -- The new id goes on the pending list: one entry of its own on the stack.
 -- Assumes nothing.
-use Rattle.std.specs.Prelude.{List, ◌≡◌, refl, ◌*◌, ◌+◌, ◌<◌, ◌≤◌, ℕ}
+use Rattle.std.specs.Prelude.{Ok, Result, List, ◌≡◌, refl, ◌*◌, ◌+◌, ◌<◌, ℕ}
+use Rattle.broken.specs.declared.Broken.{Broken}
 use Rattle.std.proofs.Common.{arith}
-use Rattle.cells.specs.Changes.{change_apart}
 use Rattle.steps.specs.Graph.{Graph}
 use Rattle.steps.specs.Machine.{pushed}
-use Rattle.cells.specs.declared.Change.{Change}
-use Rattle.cells.specs.declared.Change.TheVariants.{ChangeBroken, ChangeDone}
 use Rattle.holds.specs.Holds.{HoldsAt}
-use Rattle.holds.specs.Inside.{Inside, inside_lent, inside_same}
+use Rattle.holds.specs.Inside.{Inside, inside_lent}
 use Rattle.holds.specs.ParentsLaws.{parents_push}
 use Rattle.layout.specs.Cut.{pending}
 use Rattle.layout.specs.Lent.{Lent, lent_next}
@@ -42,20 +40,13 @@ push_holds h u i v g H room st P =
     }
 
 -- what `push` promises; a graph that is held lacks no room, since an id was just added to it
-pub record PushesId (h : Head) (i : ℕ) (r : Change) (ws ws' : List ℕ) : Type 0 where
+pub record PushesId (h : Head) (i : ℕ) (r : Result Unit Broken) (ws ws' : List ℕ) : Type 0 where
   pub inside : Inside h.n h.m ws ws'
-  pub room : r ≡ ChangeDone → h.depth < 2 * h.n
+  pub room : r ≡ Ok tt → h.depth < 2 * h.n
   pub sound : (g : Graph) (u : ℕ) → HoldsAt h u (view h.n h.m ws) g → h.depth + h.classes < 2 * h.ids
-      → (r ≡ ChangeDone) × HoldsAt (deeper h) u (view h.n h.m ws') (pushed g i)
+      → (r ≡ Ok tt) × HoldsAt (deeper h) u (view h.n h.m ws') (pushed g i)
 
-pub push_full : (h : Head) (i : ℕ) (ws : List ℕ) → 2 * h.n ≤ h.depth → PushesId h i ChangeBroken ws ws
-push_full h i ws full = record {
-  inside = inside_same h.n h.m ws;
-  room = λ e. absurd (change_apart ChangeBroken refl e);
-  sound = λ g u H few. absurd (omega (arith, H.range.ids_in));
-}
-
-pub push_done : (h : Head) (i : ℕ) (ws ws' : List ℕ) → h.depth < 2 * h.n → Lent pending h.n h.m (λ w w'. Pushes w h.depth i 0 w') ws ws' → PushesId h i ChangeDone ws ws'
+pub push_done : (h : Head) (i : ℕ) (ws ws' : List ℕ) → h.depth < 2 * h.n → Lent pending h.n h.m (λ w w'. Pushes w h.depth i 0 w') ws ws' → PushesId h i (Ok tt) ws ws'
 push_done h i ws ws' room L =
     let a = lent_next L refl in
     record {

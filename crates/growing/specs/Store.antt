@@ -1,14 +1,13 @@
 -- A new id: a root of its own, with its node and key stored, and a member of its own class; unclean. It is not yet in the table, in no parent list and not pending.
 -- Assumes nothing.
-use Rattle.std.specs.Prelude.{false, List, [], ◌++◌, ◌∷◌, ◌≡◌, refl, ◌+◌, ◌<◌, ◌≤◌, ℕ, length}
+use Rattle.std.specs.Prelude.{Ok, Result, false, List, [], ◌++◌, ◌∷◌, ◌≡◌, refl, ◌+◌, ◌<◌, ◌≤◌, ℕ, length}
+use Rattle.broken.specs.declared.Broken.{Broken}
 use Rattle.std.proofs.Common.{subst, sym, arith}
 use Rattle.lists.specs.Reads.{length_more}
 use Rattle.language.specs.Term.{Term}
 use Rattle.steps.specs.Graph.{Graph}
 use Rattle.steps.specs.Machine.{marked, stored}
 use Rattle.cells.specs.Changes.{Pushed}
-use Rattle.cells.specs.declared.Change.{Change}
-use Rattle.cells.specs.declared.Change.TheVariants.{ChangeDone}
 use Rattle.growing.specs.Enter.{Waits}
 use Rattle.holds.specs.Holds.{HoldsAt}
 use Rattle.holds.specs.HoldsLaws.{false≢true}
@@ -35,9 +34,9 @@ with_root g x z = record { nodes = g.nodes ++ (x ∷ []); roots = g.roots ++ (z 
 -- over a view
 pub store_holds : (h : Head) (u c : ℕ) (x k : Term) (v : View) (g : Graph) → HoldsAt h u v g → h.ids < h.n → h.places + c ≤ h.m → c ≡ length x.kids
     → k.op ≡ x.op → k.payload ≡ x.payload
-    → (f rs ms : List ℕ) (r : Change) → MakesSet v.forest h.ids f → Stored v.rows rs h.n h.m h.ids h.places x k
+    → (f rs ms : List ℕ) (r : Result Unit Broken) → MakesSet v.forest h.ids f → Stored v.rows rs h.n h.m h.ids h.places x k
     → Pushed v.members ms h.n h.n h.ids h.ids r
-    → (r ≡ ChangeDone) × Waits (stored_numbers h c) u (put members (put rows (put forest v f) rs) ms) (stored (marked g false) x) h.ids k
+    → (r ≡ Ok tt) × Waits (stored_numbers h c) u (put members (put rows (put forest v f) rs) ms) (stored (marked g false) x) h.ids k
 store_holds h u c x k v g H hi hp ec eo el f rs ms r F S M =
     let R = H.range in
     let N = nodes_more h.n h.m v.rows v.table g.nodes g.roots g.memo H.nodes h.ids h.places x k rs (sym H.ids_are) H.forest.len S H.places_are eo el in
@@ -65,12 +64,12 @@ store_holds h u c x k v g H hi hp ec eo el f rs ms r F S M =
     (K.0, subst (λ (z : ℕ). Waits (stored_numbers h c) u (put members (put rows (put forest v f) rs) ms) (with_root g x z) h.ids k) H.ids_are at_id)
 
 -- what `store` promises
-pub record Stores (h : Head) (c : ℕ) (x k : Term) (r : Change) (ws ws' : List ℕ) : Type 0 where
+pub record Stores (h : Head) (c : ℕ) (x k : Term) (r : Result Unit Broken) (ws ws' : List ℕ) : Type 0 where
   pub inside : Inside h.n h.m ws ws'
   pub sound : (g : Graph) (u : ℕ) → HoldsAt h u (view h.n h.m ws) g → k.op ≡ x.op → k.payload ≡ x.payload
-      → (r ≡ ChangeDone) × Waits (stored_numbers h c) u (view h.n h.m ws') (stored (marked g false) x) h.ids k
+      → (r ≡ Ok tt) × Waits (stored_numbers h c) u (view h.n h.m ws') (stored (marked g false) x) h.ids k
 
-pub stores : (ws ws1 ws2 ws3 : List ℕ) (h : Head) (c : ℕ) (x k : Term) (r : Change) → h.ids < h.n → h.places + c ≤ h.m → c ≡ length x.kids
+pub stores : (ws ws1 ws2 ws3 : List ℕ) (h : Head) (c : ℕ) (x k : Term) (r : Result Unit Broken) → h.ids < h.n → h.places + c ≤ h.m → c ≡ length x.kids
     → Lent forest h.n h.m (λ f f'. MakesSet f h.ids f') ws ws1
     → Lent rows h.n h.m (λ w w'. Stored w w' h.n h.m h.ids h.places x k) ws1 ws2
     → Lent members h.n h.m (λ w w'. Pushed w w' h.n h.n h.ids h.ids r) ws2 ws3

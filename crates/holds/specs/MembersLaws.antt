@@ -1,10 +1,11 @@
 -- What the changes of the part `members` do to the ids that stand for each class: a fresh part has none, a new id is a class of its own, two classes are joined,
 -- and a rebuild puts fewer ids with the same keys in the place of one list. And what the lists say: the keys of a class's members are the nodes of the class.
 -- Assumes nothing.
-use Rattle.std.specs.Prelude.{List, [], ◌++◌, ◌∷◌, map, ◌↔◌, ◌≢◌, ◌⊎◌, ◌≡◌, refl, ◌+◌, ◌<◌, ◌≤◌, ℕ, length, replicate, set}
+use Rattle.std.specs.Prelude.{Ok, Result, List, [], ◌++◌, ◌∷◌, map, ◌↔◌, ◌≢◌, ◌⊎◌, ◌≡◌, refl, ◌+◌, ◌<◌, ◌≤◌, ℕ, length, replicate, set}
+use Rattle.broken.specs.declared.Broken.{Broken}
 use Rattle.std.proofs.lemmas.Simd.{map-map}
 use Rattle.std.proofs.Common.{inl, inr, ◌∙◌, ap, sym, arith}
-use Rattle.lists.specs.Members.{Mem, here, mem-append-cases, mem-left, mem_length, mem-map, mem-nil, mem-of-map, mem_one, mem-right}
+use Rattle.lists.specs.Members.{Mem, here, mem-append-cases, mem-left, mem_length, mem-map, mem-nil, mem-of-map, mem_one, mem-right, mem_at, no_member}
 use Rattle.lists.specs.Reads.{at, set_all}
 use Rattle.lists.specs.Relabel.{Hit, relabel, relabel_cases, relabel_hit, relabel_miss}
 use Rattle.lists.specs.Tests.{eq_or}
@@ -21,9 +22,6 @@ use Rattle.cells.specs.Join.{join_at, join_cases}
 use Rattle.cells.specs.Pool.{Free, Pool, join_l, push_l, row}
 use Rattle.cells.specs.Push.{push_at, push_cases}
 use Rattle.cells.specs.Rows.{determined}
-use Rattle.cells.specs.declared.Change.{Change}
-use Rattle.cells.specs.declared.Change.TheVariants.{ChangeDone}
-use Rattle.lists.specs.Members.{mem_at, no_member}
 use Rattle.holds.specs.Members.{Members}
 
 -- the list of id i's class has an id with the key of i
@@ -46,7 +44,7 @@ members_fresh n ms p = record {
 canon_more : (rs : List ℕ) (n : ℕ) (x : Term) → length rs ≡ n → canon (rs ++ (n ∷ [])) x ≡ canon rs x
 canon_more rs n x e i = over_kids (λ c. root_more rs n c e i) x
 
-module _ (n N : ℕ) (ms ms' : List ℕ) (ns : List Term) (roots : List ℕ) (x : Term) (r : Change) (len_ns : length ns ≡ N) (len : length roots ≡ N)
+module _ (n N : ℕ) (ms ms' : List ℕ) (ns : List Term) (roots : List ℕ) (x : Term) (r : Result Unit Broken) (len_ns : length ns ≡ N) (len : length roots ≡ N)
     (room : N < n) (M : Members n N ms ns roots) where
   own_root : root (roots ++ (N ∷ [])) N ≡ N
   own_root = root_more roots N N len ∙ root_out roots N (omega arith)
@@ -88,7 +86,7 @@ module _ (n N : ℕ) (ms ms' : List ℕ) (ns : List Term) (roots : List ℕ) (x 
                 (canon_more roots N (node ns k.0) len ∙ k.2 ∙ sym (canon_more roots N (node ns i) len)),
           )
 
-  pub members_more : Pushed ms ms' n n N N r → (r ≡ ChangeDone) × Members n (N + 1) ms' (ns ++ (x ∷ [])) (roots ++ (N ∷ []))
+  pub members_more : Pushed ms ms' n n N N r → (r ≡ Ok tt) × Members n (N + 1) ms' (ns ++ (x ∷ [])) (roots ++ (N ∷ []))
   members_more P = let h = P.law M.lists M.pool new_free in (
     h.0,
     record {
@@ -107,7 +105,7 @@ canon_merge rs s l h x =
     (λ i. over_kids (λ c. root_relabel rs s l h c i) x)
     ∙ (λ i. record { op = x.op; payload = x.payload; kids = sym (map-map (relabel s l) (root rs) x.kids) i })
 
-module _ (n N : ℕ) (ms ms' : List ℕ) (ns : List Term) (roots : List ℕ) (stay lose : ℕ) (r : Change) (len : length roots ≡ N) (fits : N ≤ n)
+module _ (n N : ℕ) (ms ms' : List ℕ) (ns : List Term) (roots : List ℕ) (stay lose : ℕ) (r : Result Unit Broken) (len : length roots ≡ N) (fits : N ≤ n)
     (hs : stay < N) (hl : lose < N) (ne : stay ≢ lose) (M : Members n N ms ns roots) where
   gone : lose < length roots
   gone = omega arith
@@ -151,7 +149,7 @@ module _ (n N : ℕ) (ms ms' : List ℕ) (ns : List Term) (roots : List ℕ) (st
         canon_merge roots stay lose gone (node ns k.0) ∙ ap (over_kids (relabel stay lose)) k.2 ∙ sym (canon_merge roots stay lose gone (node ns i)),
       )
 
-  pub members_merge : Joined ms ms' n n stay lose r → (r ≡ ChangeDone) × Members n N ms' ns (map (relabel stay lose) roots)
+  pub members_merge : Joined ms ms' n n stay lose r → (r ≡ Ok tt) × Members n N ms' ns (map (relabel stay lose) roots)
   members_merge J = let h = J.law M.lists M.pool in (
     h.0,
     record {

@@ -1,9 +1,10 @@
 -- What the changes of the parts `rows` and `table` do to the stored nodes and the table of a graph: fresh parts hold none, a new id gets its rows, an id goes into
 -- the table under its key, and two classes are joined. And what the parts answer: the node of an id, and the id that the table keeps for a live key.
 -- Assumes nothing.
-use Rattle.std.specs.Prelude.{List, [], ◌++◌, ◌∷◌, map, ◌≢◌, ◌≡◌, refl, ◌<◌, ℕ, length, replicate}
+use Rattle.std.specs.Prelude.{None, Ok, Result, Some, List, [], ◌++◌, ◌∷◌, map, ◌≢◌, ◌≡◌, refl, ◌<◌, ℕ, length, replicate, Option}
+use Rattle.broken.specs.declared.Broken.{Broken}
+use Rattle.broken.specs.Words.{broken}
 use Rattle.std.proofs.Common.{inl, ◌∙◌, ap, sym, arith}
-use Rattle.std.proofs.Math.Option.{Option, none, some}
 use Rattle.lists.specs.Options.{none≢some}
 use Rattle.lists.specs.Reads.{length_more}
 use Rattle.lists.specs.Relabel.{relabel}
@@ -14,23 +15,18 @@ use Rattle.steps.specs.Graph.{kept, node, root}
 use Rattle.closure.specs.Facts.{root_before, root_more}
 use Rattle.closure.specs.Tables.{Agree, Live}
 use Rattle.cells.specs.Empty.{Cleared}
-use Rattle.cells.specs.declared.Change.{Change}
-use Rattle.cells.specs.declared.Change.TheVariants.{ChangeDone}
 use Rattle.holds.specs.Nodes.{Nodes}
 use Rattle.holds.specs.NodesPut.{nodes_put, vacant_alone}
 use Rattle.rows.specs.Determined.{determined, rows_none}
 use Rattle.rows.specs.Places.{term_new, term_old}
-use Rattle.rows.specs.Promise.{Given, Key, Stored}
+use Rattle.rows.specs.Promise.{IsNodeOf, Given, Key, Stored}
 use Rattle.rows.specs.Rows.{size, taken}
-use Rattle.rows.specs.declared.Fetch.TheVariants.{FetchDone}
-use Rattle.rows.specs.declared.Fetched.{Fetched}
+use Rattle.language.specs.declared.Node.{Node}
 use Rattle.table.specs.Asking.{Answers}
 use Rattle.table.specs.Buckets.{bucket_of}
 use Rattle.table.specs.Entering.{Entered}
 use Rattle.table.specs.Keys.{not_held_none, table_determined, table_more, table_none}
 use Rattle.table.specs.Table.{Held, not_held_new}
-use Rattle.table.specs.declared.Asked.{Asked}
-use Rattle.table.specs.declared.Asked.TheVariants.{AskedAt, AskedBroken, AskedNone}
 
 -- ---- fresh parts
 
@@ -46,11 +42,11 @@ nodes_fresh n m rs ts ts' e c = record {
 }
 
 -- what the table says of a live key: the answer r is the id that the graph's table keeps, one of N, or none
-pub record Asks (k : Term) (memo : List (Term × ℕ)) (N : ℕ) (r : Asked) : Type 0 where
-  pub sound : r ≢ AskedBroken
-  pub found : (x : Id) → r ≡ AskedAt x → kept k memo ≡ some x.0
-  pub absent : r ≡ AskedNone → kept k memo ≡ none
-  pub inside : (x : Id) → r ≡ AskedAt x → x.0 < N
+pub record Asks (k : Term) (memo : List (Term × ℕ)) (N : ℕ) (r : Result (Option Id) Broken) : Type 0 where
+  pub sound : r ≢ broken
+  pub found : (x : Id) → r ≡ Ok (Some x) → kept k memo ≡ Some x.0
+  pub absent : r ≡ Ok None → kept k memo ≡ None
+  pub inside : (x : Id) → r ≡ Ok (Some x) → x.0 < N
 
 -- a new root changes no root, so the same keys are live
 pub live_more : (roots : List ℕ) (N : ℕ) (k : Term) → length roots ≡ N → Live roots k → Live (roots ++ (N ∷ [])) k
@@ -74,14 +70,14 @@ module _ (n m : ℕ) (rs ts : List ℕ) (ns : List Term) (roots : List ℕ) (mem
 
   -- ---- reads
 
-  pub nodes_given : (i : ℕ) (r : Fetched) → i < length ns → Given rs n m i r → (r.out ≡ FetchDone) × (node_of r.node ≡ node ns i)
+  pub nodes_given : (i : ℕ) (r : Result Node Broken) → i < length ns → Given rs n m i r → IsNodeOf r (node ns i)
   unfolding node
   nodes_given i r h G = G.sound ns D.keys D.rows h
 
-  pub nodes_key : (i : ℕ) (r : Fetched) → i < length ns → Key rs n m i r → (r.out ≡ FetchDone) × (node_of r.node ≡ term_at D.keys i)
+  pub nodes_key : (i : ℕ) (r : Result Node Broken) → i < length ns → Key rs n m i r → IsNodeOf r (term_at D.keys i)
   nodes_key i r h K = K.sound ns D.keys D.rows h
 
-  pub nodes_ask : (k : Term) (r : Asked) → Live roots k → Answers ts rs n m k r → Asks k memo (length ns) r
+  pub nodes_ask : (k : Term) (r : Result (Option Id) Broken) → Live roots k → Answers ts rs n m k r → Asks k memo (length ns) r
   nodes_ask k r live A = record {
     sound = A.sound D.keys ns D.buckets D.table D.rows;
     found = λ x e. let h = at_id x e in D.only k x.0 live h.0 h.1;
@@ -89,12 +85,12 @@ module _ (n m : ℕ) (rs ts : List ℕ) (ns : List Term) (roots : List ℕ) (mem
     inside = λ x e. held_low x.0 (at_id x e).0;
   }
     where
-      at_id : (x : Id) → r ≡ AskedAt x → Held D.buckets x.0 × (term_at D.keys x.0 ≡ k)
+      at_id : (x : Id) → r ≡ Ok (Some x) → Held D.buckets x.0 × (term_at D.keys x.0 ≡ k)
       at_id = A.found D.keys ns D.buckets D.table D.rows
 
-      none_kept : r ≡ AskedNone → (o : Option ℕ) → kept k memo ≡ o → kept k memo ≡ none
-      none_kept e none f = f
-      none_kept e (some i) f = let h = D.found k i live f in absurd (A.none D.keys ns D.buckets D.table D.rows e i h.0 h.1)
+      none_kept : r ≡ Ok None → (o : Option ℕ) → kept k memo ≡ o → kept k memo ≡ None
+      none_kept e None f = f
+      none_kept e (Some i) f = let h = D.found k i live f in absurd (A.none D.keys ns D.buckets D.table D.rows e i h.0 h.1)
 
   -- ---- a new id, which is a class of its own
 
@@ -122,9 +118,9 @@ module _ (n m : ℕ) (rs ts : List ℕ) (ns : List Term) (roots : List ℕ) (mem
 
   -- ---- an id goes into the table, under a key that the table does not have
 
-  pub nodes_enter : (i : ℕ) (k : Term) (ts' : List ℕ) (r : Change) → i < length ns → (Held D.buckets i → ⊥) → term_at D.keys i ≡ k → Live roots k
-      → kept k memo ≡ none → Entered ts ts' n (bucket_of n k) i r
-      → (r ≡ ChangeDone) × (D' : Nodes n m rs ts' ns roots ((k, i) ∷ memo)) × (D'.keys ≡ D.keys)
+  pub nodes_enter : (i : ℕ) (k : Term) (ts' : List ℕ) (r : Result Unit Broken) → i < length ns → (Held D.buckets i → ⊥) → term_at D.keys i ≡ k → Live roots k
+      → kept k memo ≡ None → Entered ts ts' n (bucket_of n k) i r
+      → (r ≡ Ok tt) × (D' : Nodes n m rs ts' ns roots ((k, i) ∷ memo)) × (D'.keys ≡ D.keys)
   nodes_enter i k ts' r low out key live free E =
       let w = vacant_alone n m rs ts ns roots memo D i k live (inl free) in
       nodes_put n m rs ts ns roots memo D i k D.keys key (λ y ne. refl) (λ k' l e. absurd (out (D.found k' i l e).0)) rs ts ts' r low D.rows
@@ -152,10 +148,10 @@ module _ (n m : ℕ) (rs ts : List ℕ) (ns : List Term) (roots : List ℕ) (mem
 
 -- ---- a new id is stored, and goes into the table
 
-pub nodes_add : (n m : ℕ) (rs rs' ts ts' : List ℕ) (ns : List Term) (roots : List ℕ) (memo : List (Term × ℕ)) (N p : ℕ) (x k : Term) (r : Change)
-    (D : Nodes n m rs ts ns roots memo) → length ns ≡ N → length roots ≡ N → Live roots k → kept k memo ≡ none
+pub nodes_add : (n m : ℕ) (rs rs' ts ts' : List ℕ) (ns : List Term) (roots : List ℕ) (memo : List (Term × ℕ)) (N p : ℕ) (x k : Term) (r : Result Unit Broken)
+    (D : Nodes n m rs ts ns roots memo) → length ns ≡ N → length roots ≡ N → Live roots k → kept k memo ≡ None
     → Stored rs rs' n m N p x k → p ≡ taken ns (length ns) → k.op ≡ x.op → k.payload ≡ x.payload → Entered ts ts' n (bucket_of n k) N r
-    → (r ≡ ChangeDone) × (D' : Nodes n m rs' ts' (ns ++ (x ∷ [])) (roots ++ (N ∷ [])) ((k, N) ∷ memo)) × (D'.keys ≡ D.keys ++ (k ∷ []))
+    → (r ≡ Ok tt) × (D' : Nodes n m rs' ts' (ns ++ (x ∷ [])) (roots ++ (N ∷ [])) ((k, N) ∷ memo)) × (D'.keys ≡ D.keys ++ (k ∷ []))
 nodes_add n m rs rs' ts ts' ns roots memo N p x k r D len_ns len live free S ep eo el E =
     let a = nodes_more n m rs ts ns roots memo D N p x k rs' len_ns len S ep eo el in
     let b = nodes_enter n m rs' ts (ns ++ (x ∷ [])) (roots ++ (N ∷ [])) memo a.nodes N k ts' r (omega (arith, length_more ns x)) a.out a.key
@@ -175,15 +171,15 @@ nodes_determined n m rs ts ns ns' roots memo memo' D E e = (both.0, λ k live. g
     lists = table_determined ts n D.keys E.keys D.buckets E.buckets D.table E.table
 
     -- what one table keeps the other does
-    there : (k : Term) (i : ℕ) → Live roots k → kept k memo ≡ some i → kept k memo' ≡ some i
+    there : (k : Term) (i : ℕ) → Live roots k → kept k memo ≡ Some i → kept k memo' ≡ Some i
     there k i live f = let h = D.found k i live f in
         E.only k i live (rw lists at h.0) (ap (λ (ks : List Term). term_at ks i) (sym both.1) ∙ h.1)
 
-    back : (k : Term) (i : ℕ) → Live roots k → kept k memo' ≡ some i → kept k memo ≡ some i
+    back : (k : Term) (i : ℕ) → Live roots k → kept k memo' ≡ Some i → kept k memo ≡ Some i
     back k i live f = let h = E.found k i live f in
         D.only k i live (rw (← lists) at h.0) (ap (λ (ks : List Term). term_at ks i) both.1 ∙ h.1)
 
     go : (k : Term) → Live roots k → (o o' : Option ℕ) → kept k memo ≡ o → kept k memo' ≡ o' → kept k memo ≡ kept k memo'
-    go k live (some i) o' f g = f ∙ sym (there k i live f)
-    go k live none (some i) f g = back k i live g ∙ sym g
-    go k live none none f g = f ∙ sym g
+    go k live (Some i) o' f g = f ∙ sym (there k i live f)
+    go k live None (Some i) f g = back k i live g ∙ sym g
+    go k live None None f g = f ∙ sym g

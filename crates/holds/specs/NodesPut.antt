@@ -1,17 +1,15 @@
 -- An id goes into the table under a live key that no other id there has, and the graph's table gets the entry. `Vacant` and `Ready` say what table is left when
 -- the ids that are in the way have gone.
 -- Assumes nothing.
-use Rattle.std.specs.Prelude.{List, ◌∷◌, ◌≢◌, ◌⊎◌, ◌≡◌, refl, ◌<◌, ℕ, length}
+use Rattle.std.specs.Prelude.{Ok, Result, List, ◌∷◌, ◌≢◌, ◌⊎◌, ◌≡◌, refl, ◌<◌, ℕ, length, None, Some}
+use Rattle.broken.specs.declared.Broken.{Broken}
 use Rattle.std.proofs.Common.{inl, inr, ◌∙◌, ap, sym, arith}
-use Rattle.std.proofs.Math.Option.{none, some}
 use Rattle.lists.specs.Options.{none≢some, some_inj}
 use Rattle.language.specs.Term.{Term, same_term, term_at}
 use Rattle.steps.specs.Graph.{kept}
 use Rattle.closure.specs.Facts.{kept_here, kept_past}
 use Rattle.closure.specs.Tables.{Live}
 use Rattle.cells.specs.Pool.{push_l}
-use Rattle.cells.specs.declared.Change.{Change}
-use Rattle.cells.specs.declared.Change.TheVariants.{ChangeDone}
 use Rattle.holds.specs.Nodes.{Nodes}
 use Rattle.rows.specs.Rows.{Rows}
 use Rattle.table.specs.Buckets.{bucket_of}
@@ -34,7 +32,7 @@ pub record Ready (n : ℕ) (ts : List ℕ) (ks : List Term) (L : List (List ℕ)
 
 module _ (n m : ℕ) (rs ts : List ℕ) (ns : List Term) (roots : List ℕ) (memo : List (Term × ℕ)) (D : Nodes n m rs ts ns roots memo) (i : ℕ) (k : Term) where
   -- so it is where the graph's table has no id for a live key k, or i itself
-  pub vacant_alone : Live roots k → (kept k memo ≡ none) ⊎ (kept k memo ≡ some i) → Vacant n ts D.keys D.buckets i k
+  pub vacant_alone : Live roots k → (kept k memo ≡ None) ⊎ (kept k memo ≡ Some i) → Vacant n ts D.keys D.buckets i k
   vacant_alone live o = record {
     lists = D.buckets;
     table = D.table;
@@ -43,14 +41,14 @@ module _ (n m : ℕ) (rs ts : List ℕ) (ns : List Term) (roots : List ℕ) (mem
     from = λ y h. h;
   }
     where
-      go : (kept k memo ≡ none) ⊎ (kept k memo ≡ some i) → (y : ℕ) → kept k memo ≡ some y → y ≡ i
+      go : (kept k memo ≡ None) ⊎ (kept k memo ≡ Some i) → (y : ℕ) → kept k memo ≡ Some y → y ≡ i
       go (inl f) y e = absurd (none≢some (sym f ∙ e))
       go (inr f) y e = some_inj (sym e ∙ f)
 
   -- ---- i goes in: it has the key k, and the others have kept their keys
 
   module _ (ks : List Term) (key : term_at ks i ≡ k) (same : (y : ℕ) → y ≢ i → term_at ks y ≡ term_at D.keys y)
-      (own : (k' : Term) → Live roots k' → kept k' memo ≡ some i → k' ≡ k) (rs' ts₁ ts₂ : List ℕ) (r : Change) (low : i < length ns) (R : Rows rs' n m ns ks)
+      (own : (k' : Term) → Live roots k' → kept k' memo ≡ Some i → k' ≡ k) (rs' ts₁ ts₂ : List ℕ) (r : Result Unit Broken) (low : i < length ns) (R : Rows rs' n m ns ks)
       (W : Ready n ts₁ D.keys D.buckets i k) where
     -- what is held on the way is not i
     not_i : (y : ℕ) → Held W.vacant.lists y → y ≢ i
@@ -60,29 +58,29 @@ module _ (n m : ℕ) (rs ts : List ℕ) (ns : List Term) (roots : List ℕ) (mem
     put_new : (y : ℕ) → Held W.vacant.lists y → term_at ks y ≢ term_at ks i
     put_new y h e = not_i y h (W.vacant.free y h (sym (same y (not_i y h)) ∙ e ∙ key))
 
-    put_found : (K : List (List ℕ)) → Adds W.vacant.lists K i → (k' : Term) (y : ℕ) → Live roots k' → kept k' ((k, i) ∷ memo) ≡ some y
+    put_found : (K : List (List ℕ)) → Adds W.vacant.lists K i → (k' : Term) (y : ℕ) → Live roots k' → kept k' ((k, i) ∷ memo) ≡ Some y
         → Held K y × (term_at ks y ≡ k')
     put_found K a k' y l e = go (same_term k' k)
       where
         go : Dec (k' ≡ k) → Held K y × (term_at ks y ≡ k')
         go (yes q) = let is : i ≡ y = some_inj (sym (kept_here k' k i memo q) ∙ e) in rw (← is) (a.new, key ∙ sym q)
         go (no q) =
-            let f : kept k' memo ≡ some y = sym (kept_past k' k i memo q) ∙ e in
+            let f : kept k' memo ≡ Some y = sym (kept_past k' k i memo q) ∙ e in
             let h = D.found k' y l f in
-            let ne : y ≢ i = (λ z. q (own k' l (f ∙ ap some z))) in
+            let ne : y ≢ i = (λ z. q (own k' l (f ∙ ap Some z))) in
             (a.old y (W.vacant.stays y h.0 ne (λ z. q (sym h.1 ∙ z))), same y ne ∙ h.1)
 
     put_only : (K : List (List ℕ)) → Adds W.vacant.lists K i → (k' : Term) (y : ℕ) → Live roots k' → Held K y → term_at ks y ≡ k'
-        → kept k' ((k, i) ∷ memo) ≡ some y
+        → kept k' ((k, i) ∷ memo) ≡ Some y
     put_only K a k' y l h e = go (a.from y h)
       where
-        go : Held W.vacant.lists y ⊎ (y ≡ i) → kept k' ((k, i) ∷ memo) ≡ some y
+        go : Held W.vacant.lists y ⊎ (y ≡ i) → kept k' ((k, i) ∷ memo) ≡ Some y
         go (inl g) =
             let f : term_at D.keys y ≡ k' = sym (same y (not_i y g)) ∙ e in
             kept_past k' k i memo (λ q. not_i y g (W.vacant.free y g (f ∙ q))) ∙ D.only k' y l (W.vacant.from y g) f
-        go (inr q) = kept_here k' k i memo (sym e ∙ ap (term_at ks) q ∙ key) ∙ ap some (sym q)
+        go (inr q) = kept_here k' k i memo (sym e ∙ ap (term_at ks) q ∙ key) ∙ ap Some (sym q)
 
-    pub nodes_put : Entered ts₁ ts₂ n (bucket_of n k) i r → (r ≡ ChangeDone) × (D' : Nodes n m rs' ts₂ ns roots ((k, i) ∷ memo)) × (D'.keys ≡ ks)
+    pub nodes_put : Entered ts₁ ts₂ n (bucket_of n k) i r → (r ≡ Ok tt) × (D' : Nodes n m rs' ts₂ ns roots ((k, i) ∷ memo)) × (D'.keys ≡ ks)
     nodes_put E =
         let L = W.vacant.lists in
         let K = push_l L (bucket_of n k) i in

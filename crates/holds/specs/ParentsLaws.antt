@@ -1,8 +1,9 @@
 -- The micro-steps of the machine on parent lists and pending, as what the parts `uses`, `owners` and `pending` do: none at first, a new id, an id linked to one
 -- parent list, an id pushed, two classes merged, the id pushed last taken. And: the words determine the lists.
 -- Assumes nothing.
+use Rattle.std.specs.Prelude.{Ok, Result, ◌≢◌, ◌≡◌, refl, replicate, take}
+use Rattle.broken.specs.declared.Broken.{Broken}
 use mathlib.Core.List.{List, [], ◌++◌, ◌∷◌, map, map-append, reverse}
-use Rattle.std.specs.Prelude.{◌≢◌, ◌≡◌, refl, replicate, take}
 use Rattle.std.proofs.Math.Logic.{⊎_elim}
 use Rattle.std.proofs.Common.{◌∙◌, ext_get_or}
 use Rattle.std.proofs.Math.Path.{ap, sym}
@@ -11,7 +12,7 @@ use native.Mathlib.Omega.{arith}
 use Rattle.std.proofs.Math.ListN.{get_or-eq_default, get_or, length, length-append, length-set, set}
 use Rattle.std.proofs.lemmas.List.{length-map}
 use Rattle.std.proofs.Math.Seq.{get_or-set_other, get_or-set_same}
-use Rattle.lists.specs.Reads.{at, get_or_map_lt, get_or_more}
+use Rattle.lists.specs.Reads.{at, get_or_map_lt, get_or_more, get_or_copies, map_at, take_map}
 use Rattle.lists.specs.Tests.{lt_or}
 use Rattle.steps.specs.Graph.{uses}
 use Rattle.steps.specs.Machine.{link}
@@ -22,12 +23,9 @@ use Rattle.cells.specs.Pool.{Apart, Pool, Under, join_l, push_l, row}
 use Rattle.cells.specs.Push.{push_cases, push_else}
 use Rattle.cells.specs.Rows.{determined}
 use Rattle.cells.specs.Stretch.{stretch_determined, Stretch, part_under, stretch_join, stretch_list, stretch_low, stretch_pop, stretch_push}
-use Rattle.lists.specs.Reads.{get_or_copies, map_at, take_map}
 use Rattle.holds.specs.Parents.{Owned, Parents}
 use Rattle.pending.specs.Moves.{StretchOn, Taken, depth_le, pending_determined, pending_empty, pending_map, pending_none, pending_one, pending_stretch, take_last, take_one, top_stretch}
 use Rattle.pending.specs.Promise.{Pushes, PushesStretch, Tops}
-use Rattle.cells.specs.declared.Change.{Change}
-use Rattle.cells.specs.declared.Change.TheVariants.{ChangeDone}
 use Rattle.pending.specs.declared.OnTop.{OnTop}
 use Rattle.pending.specs.declared.OnTop.TheVariants.{TopMany, TopOne}
 
@@ -114,8 +112,8 @@ module _ (n m N u d : ℕ) (us own st : List ℕ) (ps : List (List ℕ)) (pend :
         (λ x ne k. get_or-set_other ps list x (get_or ps list [] ++ (i ∷ [])) [] ne ∙ P.are x k ∙ sym (owner_free own u i (row L x) (all x)))
         a h
 
-    pub parents_link : (us' own' : List ℕ) (r : Change) → own' ≡ set own u i → Pushed us us' n m list u r
-        → (r ≡ ChangeDone) × Parents n m N (u + 1) d us' own' st (link i (list ∷ []) ps) pend
+    pub parents_link : (us' own' : List ℕ) (r : Result Unit Broken) → own' ≡ set own u i → Pushed us us' n m list u r
+        → (r ≡ Ok tt) × Parents n m N (u + 1) d us' own' st (link i (list ∷ []) ps) pend
     unfolding link
     parents_link us' own' r e q =
         let L = P.lists in
@@ -166,8 +164,8 @@ module _ (n m N u d : ℕ) (us own st : List ℕ) (ps : List (List ℕ)) (pend :
         (λ x na nb k. get_or-set_other mid lose x [] [] nb ∙ get_or-set_other ps stay x both [] na ∙ P.are x k)
         a h
 
-    pub parents_merge : (k : ℕ) (us' st' : List ℕ) (r : Change) → Joined us us' n m stay lose r → PushesStretch st d (at us lose) (at us (lose + n + n)) k st'
-        → (r ≡ ChangeDone)
+    pub parents_merge : (k : ℕ) (us' st' : List ℕ) (r : Result Unit Broken) → Joined us us' n m stay lose r → PushesStretch st d (at us lose) (at us (lose + n + n)) k st'
+        → (r ≡ Ok tt)
         × Parents n m N u k us' own st' (set (set ps stay (uses ps stay ++ uses ps lose)) lose []) (reverse (uses ps lose) ++ pend)
     parents_merge k us' st' r J q =
         let L = P.lists in
@@ -217,11 +215,11 @@ module _ (n m N u d : ℕ) (us own st : List ℕ) (ps : List (List ℕ)) (pend :
   parents_some h e = omega (arith, depth_le (owned_length own P.lists) P.pending, ap length e)
 
   -- an entry of one id
-  pub parents_take_one : (i : ℕ) (r : OnTop) → 0 < d → Tops st d r → r ≡ TopOne i → Took n m N u (d - 1) us own st ps pend i
+  pub parents_take_one : (i : ℕ) (r : OnTop ℕ) → 0 < d → Tops st d r → r ≡ TopOne i → Took n m N u (d - 1) us own st ps pend i
   parents_take_one i r some t e = took (d - 1) st i (take_one P.pending some t e)
 
   -- an entry of k places: the id is the owner of the last, and the other places are put back
-  module _ (c k : ℕ) (r : OnTop) (some : 0 < d) (t : Tops st d r) (many : r ≡ TopMany c k) where
+  module _ (c k : ℕ) (r : OnTop ℕ) (some : 0 < d) (t : Tops st d r) (many : r ≡ TopMany c k) where
     on_top : StretchOn (Owned own P.lists) st (d - 1) c k pend
     on_top = top_stretch P.pending some t many
 

@@ -2,12 +2,11 @@
 -- Assumes nothing.
 use Rattle.std.specs.Prelude.{List, map, reverse, ◌⊎◌, ◌≡◌, ◌+◌, ◌<◌, suc, ℕ, length}
 use Rattle.std.proofs.Common.{inl, inr, arith}
-use Rattle.lists.specs.Members.{Mem, mem-append-cases, mem-cases, mem-nil, mem-of-map, mem_unreverse}
+use Rattle.lists.specs.Members.{Mem, mem-append-cases, mem-cases, mem-nil, mem-of-map, mem_unreverse, all_members}
 use Rattle.lists.specs.Reads.{at}
 use Rattle.steps.specs.Graph.{uses}
 use Rattle.cells.specs.Pool.{row}
 use Rattle.cells.specs.Stretch.{part_under}
-use Rattle.lists.specs.Members.{all_members}
 use Rattle.holds.specs.Parents.{Parents}
 use Rattle.pending.specs.Stack.{Entries, Stack}
 use Rattle.pending.specs.Stands.{Stands, many, none, one}

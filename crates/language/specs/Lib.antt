@@ -3,5 +3,5 @@ pub mod Ordered
 pub mod Sorted
 pub mod Hashed
 pub mod Struct
-pub mod Loops
+pub mod Methods
 pub mod Partway

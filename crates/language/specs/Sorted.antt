@@ -5,8 +5,8 @@ use Rattle.std.specs.Prelude.{◌≡◌, refl, ◌⊎◌, List, [], ◌∷◌, �
 use Rattle.std.proofs.Common.{◌∙◌, inl, inr, arith}
 use Rattle.lists.specs.Members.{Mem, here, there, mem-cases, mem-nil}
 use Rattle.lists.specs.Sorted.{Ascending, none_left, first}
-use Rattle.language.specs.declared.Ordering.{Ordering}
-use Rattle.language.specs.declared.Ordering.TheVariants.{Less, Equal, Greater}
+use Rattle.std.specs.declared.cmp.Ordering.{Ordering}
+use Rattle.std.specs.declared.cmp.Ordering.TheVariants.{Less, Equal, Greater}
 use Rattle.language.specs.Term.{Term}
 use Rattle.language.specs.Ordered.{order, Before, order_equal, order_reversed, order_trans}
 

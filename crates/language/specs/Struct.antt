@@ -1,16 +1,15 @@
 -- What the struct `Node` means (document 01: "It keeps its children in a fixed row of eight places, and places past the count mean nothing"):
 -- a definition takes it to the plain node, and these are its laws.
 -- Assumes nothing.
-use Rattle.std.specs.Prelude.{◌≡◌, refl, Bool, List, [], ◌∷◌, map, ℕ, zero, suc, ◌+◌, ◌≤◌, ◌<◌, length, get_or, set, take}
-use Rattle.std.proofs.Common.{sym, ap, ◌∙◌, arith, add-one, length-take, get_or-take, take-suc-set}
-use Rattle.std.proofs.lemmas.List.{length-map}
+use Rattle.std.specs.Prelude.{◌≡◌, List, map, ℕ, ◌+◌, ◌≤◌, ◌<◌, length, get_or, set, take}
+use Rattle.std.proofs.Common.{sym, ◌∙◌, arith, add-one, length-take, get_or-take, take-suc-set}
+use Rattle.std.proofs.lemmas.List.{length-map, map-set}
 use Rattle.std.proofs.Math.ListN.{get_or-map}
 use Rattle.std.proofs.Math.Seq.{take-set-lt}
 use Rattle.lists.specs.Reads.{at}
-use Rattle.lists.specs.Tests.{Says}
 use Rattle.language.specs.declared.Id.{Id}
 use Rattle.language.specs.declared.Node.{Node}
-use Rattle.language.specs.Term.{Term, places, Match, grown, rekid, term_path}
+use Rattle.language.specs.Term.{Term, places, grown, rekid}
 
 -- the numbers in the row
 abbrev pub row : Node → List ℕ
@@ -40,44 +39,14 @@ kid_at x i h = sym (get_or-take x.count (row x) i 0 h ∙ get_or-map (λ (k : Id
 
 -- ---- writes
 
-map_set : (ks : List Id) (i : ℕ) (k : Id) → map (λ (k : Id). k.0) (set ks i k) ≡ set (map (λ (k : Id). k.0) ks) i k.0
-map_set [] i k = refl
-map_set (x ∷ ks) zero k = refl
-map_set (x ∷ ks) (suc i) k = ap (λ (l : List ℕ). x.0 ∷ l) (map_set ks i k)
-
 pub node_of_set : (x : Node) (i : ℕ) (k : Id) → i < x.count
     → node_of (record { op = x.op; payload = x.payload; count = x.count; kids = set x.kids i k }) ≡ rekid (node_of x) i k.0
 unfolding node_of rekid
-node_of_set x i k h = rw (map_set x.kids i k, take-set-lt x.count (row x) i k.0 h)
+node_of_set x i k h = rw (map-set (λ (k : Id). k.0) x.kids i k, take-set-lt x.count (row x) i k.0 h)
 
 pub node_of_more : (x : Node) (k : Id) → Full x → x.count < places
     → node_of (record { op = x.op; payload = x.payload; count = x.count + 1; kids = set x.kids x.count k }) ≡ grown (node_of x) k.0
 unfolding node_of grown
 node_of_more x k f h =
     let l : x.count < length (row x) = simp length-map (omega arith) in
-    rw (map_set x.kids x.count k, add-one, take-suc-set (row x) x.count k.0 l)
-
--- ---- matching and equality
-
-module _ (x y : Node) (fx : Full x) (fy : Full y) (hx : x.count ≤ places) (hy : y.count ≤ places) where
-  pub match_op : Match (node_of x) (node_of y) → x.op.0 ≡ y.op.0
-  unfolding node_of
-  match_op m = m.op
-
-  pub match_payload : Match (node_of x) (node_of y) → x.payload ≡ y.payload
-  unfolding node_of
-  match_payload m = m.payload
-
-  pub match_count : Match (node_of x) (node_of y) → x.count ≡ y.count
-  match_count m = omega (arith, count_kids x fx hx, count_kids y fy hy)
-
-  pub matched : x.op.0 ≡ y.op.0 → x.payload ≡ y.payload → x.count ≡ y.count → Match (node_of x) (node_of y)
-  unfolding node_of
-  matched o p n = record { op = o; payload = p; count = omega (arith, count_kids x fx hx, count_kids y fy hy) }
-
--- equal nodes match, and nodes that match are equal where their children are
-pub equal_match : (s t : Term) → s ≡ t → Match s t
-equal_match s t e = record { op = ap (λ (u : Term). u.op) e; payload = ap (λ (u : Term). u.payload) e; count = ap (λ (u : Term). length u.kids) e }
-
-pub says_both : (s t : Term) → Match s t → {r : Bool} → Says r (s.kids ≡ t.kids) → Says r (s ≡ t)
-says_both s t m says = record { holds = λ e. term_path m.op m.payload (says.holds e); fails = λ e q. says.fails e (ap (λ (u : Term). u.kids) q) }
+    rw (map-set (λ (k : Id). k.0) x.kids x.count k, add-one, take-suc-set (row x) x.count k.0 l)

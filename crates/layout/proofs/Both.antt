@@ -2,6 +2,7 @@
 -- Assumes nothing.
 use Rattle.std.specs.Prelude.{List, ◌++◌, ◌≡◌, ◌*◌, ◌+◌, ◌-◌, ◌<◌, ◌≤◌, ℕ, drop, length, take}
 use Rattle.std.proofs.Common.{◌∙◌, ap, arith, length-append, length-drop, take-append-drop, drop_at, take_at}
+use Rattle.std.specs.declared.ops.Range.{Range}
 use Rattle.lists.specs.Parts.{part, part_join, part_length, take_part, with_part, with_part_tail}
 use Rattle.lists.specs.Reads.{at}
 use Rattle.layout.specs.Both.{LentBoth, both, row_words}
@@ -40,3 +41,10 @@ module _ (n m : ℕ) (ws ys : List ℕ) (lent : need n m ≤ length ws) where
       let y : (view n m ws).rows ++ drop (b - a) ys ≡ ys = rw (g, ← f) (take-append-drop (b - a) ys) in
       rw w
       (record { lent = lent_part n m ws (drop (b - a) ys) lent sorting (λ u u'. P ((view n m ws).rows ++ u) ((view n m ws).rows ++ u')) s (rw (x, y) p) })
+
+-- the same, where the slice is lent by the head's range
+pub lent_both_range : {n m : ℕ} {r : Range ℕ} {P : List ℕ → List ℕ → Type 0} (ws ys : List ℕ)
+    → (r.start ≡ lower rows n m) × (r.end ≡ upper sorting n m) → need n m ≤ length ws
+    → length ys ≡ length (part ws r.start r.end) → ((j : ℕ) → j < row_words n m → at ys j ≡ at (part ws r.start r.end) j)
+    → P (part ws r.start r.end) ys → LentBoth n m P ws (with_part ws r.start r.end ys)
+lent_both_range {n} {m} {P = P} ws ys s h e q p = rw (s.0, s.1) (lent_both n m ws ys h P (rw (s.0, s.1) at e) (rw (s.0, s.1) at q) (rw (s.0, s.1) at p))

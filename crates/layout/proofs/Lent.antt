@@ -1,11 +1,12 @@
--- The one law that every function that lends a part cites.
+-- The laws that every function that lends a part cites: `lent_range` where the part was lent to be written, `seen_range` where it was lent to be read.
 -- Assumes nothing.
 use Rattle.std.specs.Prelude.{List, ◌≡◌, ◌-◌, ◌≤◌, ℕ, length}
 use Rattle.std.proofs.Common.{◌∙◌, ap, arith}
+use Rattle.std.specs.declared.ops.Range.{Range}
 use borrow.Rule.Slice.PartMut.{same_len_mid}
 use Rattle.lists.specs.Parts.{part, part_length, with_part}
 use Rattle.layout.specs.Back.{back}
-use Rattle.layout.specs.Cut.{Part, lower, need, upper, upper_need}
+use Rattle.layout.specs.Cut.{Part, Spans, lower, need, upper, upper_need}
 use Rattle.layout.specs.Lent.{Lent}
 use Rattle.layout.specs.View.{get, get_part, get_put, view}
 use Rattle.layout.proofs.Back.{back_view}
@@ -23,3 +24,13 @@ module _ (n m : ℕ) (ws ys : List ℕ) (lent : need n m ≤ length ws) where
         else = rw g v;
         did = rw (g, get_part k n m ws) p;
       }
+
+-- a part that is lent by the head's range, to be read: it is the part of the view
+pub seen_range : {k : Part} {n m : ℕ} {r : Range ℕ} (ws : List ℕ) → Spans k n m r → get k (view n m ws) ≡ part ws r.start r.end
+seen_range {k} {n} {m} ws s = rw (s.from, s.to) (get_part k n m ws)
+
+-- what a part that was lent by the head's range leaves
+pub lent_range : {k : Part} {n m : ℕ} {r : Range ℕ} {P : List ℕ → List ℕ → Type 0} (ws ys : List ℕ)
+    → Spans k n m r → need n m ≤ length ws → length ys ≡ length (part ws r.start r.end)
+    → P (part ws r.start r.end) ys → Lent k n m P ws (with_part ws r.start r.end ys)
+lent_range {k} {n} {m} {P = P} ws ys s h e p = rw (s.from, s.to) (lent_part n m ws ys h k P (rw (s.from, s.to) at e) (rw (s.from, s.to) at p))

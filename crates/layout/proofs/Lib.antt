@@ -4,3 +4,4 @@ pub mod Idle
 pub mod Lent
 pub mod Sizes
 pub mod Whole
+pub mod Zero

@@ -1,8 +1,9 @@
 -- How the words are cut, for the limits n (ids) and m (child places): a head of 32 words, then nine parts, each beginning where the one before it ends.
--- `lower` and `upper` say where a part begins and ends, in the very sums that the code writes (`let a = 32 + 22 * n + 4 * m; let e = a + 6 * n;`); `need` is the end of the last.
+-- `lower` and `upper` say where a part begins and ends, and `Spans` that a range of words is the one from there to there; `need` is the end of the last.
 -- Assumes nothing.
 use Rattle.std.specs.Prelude.{◌≡◌, ◌*◌, ◌+◌, ◌≤◌, ℕ}
 use Rattle.std.proofs.Common.{arith}
+use Rattle.std.specs.declared.ops.Range.{Range}
 
 pub data Part : Type 0 where
   -- the links of union-find
@@ -51,6 +52,11 @@ upper members n m = 32 + 10 * n + 4 * m + 4 * n
 upper table n m = 32 + 14 * n + 4 * m + 4 * n
 upper pending n m = 32 + 18 * n + 4 * m + 4 * n
 upper scratch n m = 32 + 22 * n + 4 * m + 6 * n
+
+-- r is the range of words where a part lies
+pub record Spans (k : Part) (n m : ℕ) (r : Range ℕ) : Type 0 where
+  pub from : r.start ≡ lower k n m
+  pub to : r.end ≡ upper k n m
 
 -- how many words a part has
 abbrev pub size : Part → ℕ → ℕ → ℕ

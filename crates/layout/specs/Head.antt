@@ -1,16 +1,15 @@
 -- The head as it is read: which numbers stand there, when they are good, and what a function that read them may use.
 -- `numbers` stays shut, so that `rw (← q.is)` with a `HeadIs` q puts the struct in the place of what stands in the words.
 -- Assumes nothing.
-use Rattle.std.specs.Prelude.{Bool, false, true, List, ◌≡◌, ◌*◌, ◌<◌, ◌≤◌, ℕ, eqb, length}
-use Rattle.std.proofs.Common.{◌∙◌, subst, sym, arith}
+use Rattle.std.specs.Prelude.{Bool, false, true, List, None, Option, Some, ◌≡◌, ◌*◌, ◌≤◌, ℕ, eqb, length, refl}
+use Rattle.std.specs.Bool.{then_some}
+use Rattle.std.proofs.Common.{subst, sym, arith}
 use Rattle.lists.specs.Reads.{at}
 use Rattle.lists.specs.Tests.{Says}
 use Rattle.layout.specs.Cut.{Part, need}
-use Rattle.layout.specs.Lent.{Lent, Loaded, lent_head}
+use Rattle.layout.specs.Lent.{Lent, lent_head}
 use Rattle.layout.specs.View.{hd, hd_at}
 use Rattle.layout.specs.declared.Head.{Head}
-use Rattle.layout.specs.declared.HeadRead.{HeadRead}
-use Rattle.layout.specs.declared.HeadRead.TheVariants.{HeadGood, HeadBad}
 
 -- ---- the numbers
 
@@ -48,9 +47,9 @@ pub record HeadIs (len : ℕ) (h : List ℕ) (s : Head) : Type 0 where
   pub flag : at h 6 ≤ 1
   pub ok : HeadOk len s
 
-abbrev pub HeadSays : ℕ → List ℕ → HeadRead → Type 0
-HeadSays len h (HeadGood s) = HeadIs len h s
-HeadSays len h HeadBad = GoodHead len h → ⊥
+abbrev pub HeadSays : ℕ → List ℕ → Option Head → Type 0
+HeadSays len h (Some s) = HeadIs len h s
+HeadSays len h None = GoodHead len h → ⊥
 
 -- ---- the laws
 
@@ -64,29 +63,24 @@ pub head_good : {len : ℕ} {h : List ℕ} {s : Head} → HeadIs len h s → Goo
 head_good {len} q = record { flag = q.flag; ok = subst (λ (t : Head). HeadOk len t) q.is q.ok }
 
 -- how a test of the head comes out
-pub head_is : (len : ℕ) (h : List ℕ) (r : HeadRead) (s : Head) → HeadSays len h r → r ≡ HeadGood s → HeadIs len h s
+pub head_is : (len : ℕ) (h : List ℕ) (r : Option Head) (s : Head) → HeadSays len h r → r ≡ Some s → HeadIs len h s
 head_is len h r s p e = rw e at p
 
-pub head_bad : (len : ℕ) (h : List ℕ) (r : HeadRead) → HeadSays len h r → r ≡ HeadBad → GoodHead len h → ⊥
+pub head_bad : (len : ℕ) (h : List ℕ) (r : Option Head) → HeadSays len h r → r ≡ None → GoodHead len h → ⊥
 head_bad len h r p e = rw e at p
 
--- seven words read are the numbers of the head
-pub numbers_loaded : (ws : List ℕ) (a b c d e f g : ℕ) → Loaded ws 0 a → Loaded ws 1 b → Loaded ws 2 c → Loaded ws 3 d → Loaded ws 4 e → Loaded ws 5 f → Loaded ws 6 g
-    → ◌≡◌ {A = Head} (record { n = a; m = b; ids = c; places = d; depth = e; classes = f; clean = eqb g 1 }) (numbers (hd ws))
+-- the numbers of the words are those of their head
+pub numbers_hd : (ws : List ℕ) → numbers ws ≡ numbers (hd ws)
 unfolding numbers
-numbers_loaded ws a b c d e f g la lb lc ld le lf lg =
-    λ i. record {
-      n = word 0 a la (omega arith) i;
-      m = word 1 b lb (omega arith) i;
-      ids = word 2 c lc (omega arith) i;
-      places = word 3 d ld (omega arith) i;
-      depth = word 4 e le (omega arith) i;
-      classes = word 5 f lf (omega arith) i;
-      clean = eqb (word 6 g lg (omega arith) i) 1;
-    }
-  where
-    word : (k r : ℕ) → Loaded ws k r → k < 32 → r ≡ at (hd ws) k
-    word k r l h = l.is ∙ sym (hd_at ws k h)
+numbers_hd ws = simp (
+  hd_at ws 0 (omega arith),
+  hd_at ws 1 (omega arith),
+  hd_at ws 2 (omega arith),
+  hd_at ws 3 (omega arith),
+  hd_at ws 4 (omega arith),
+  hd_at ws 5 (omega arith),
+  hd_at ws 6 (omega arith),
+)
 
 -- how a test of the numbers settles the head
 pub head_told : (len : ℕ) (h : List ℕ) (s : Head) (b : Bool) → s ≡ numbers h → at h 6 ≤ 1 → Says b (HeadOk len s) → b ≡ true → HeadIs len h s
@@ -94,6 +88,10 @@ head_told len h s b e f q t = record { is = e; flag = f; ok = q.holds t }
 
 pub head_untold : (len : ℕ) (h : List ℕ) (s : Head) (b : Bool) → s ≡ numbers h → Says b (HeadOk len s) → b ≡ false → GoodHead len h → ⊥
 head_untold len h s b e q t g = q.fails t (subst (λ (x : Head). HeadOk len x) (sym e) g.ok)
+
+pub head_tested : (len : ℕ) (h : List ℕ) (s : Head) (b : Bool) → s ≡ numbers h → at h 6 ≤ 1 → Says b (HeadOk len s) → HeadSays len h (then_some b s)
+head_tested len h s true e f q = head_told len h s true e f q refl
+head_tested len h s false e f q = head_untold len h s false e q refl
 
 -- a lend leaves the head good
 pub lent_is : {k : Part} {n m : ℕ} {P : List ℕ → List ℕ → Type 0} {ws ws' : List ℕ} {s : Head} → Lent k n m P ws ws' → HeadIs (length ws) (hd ws) s → HeadIs (length ws') (hd ws') s

@@ -1,5 +1,5 @@
 -- What is left when one part was lent: the length stays, nothing but the part has changed, and what the callee promised holds between the part before and after.
--- `lent_part` of proofs, Lent, is the one law that every function that lends a part cites; `LentBoth` is the same for the rows lent together with the sort's work area.
+-- `lent_range` of proofs, Lent, is the law that a function that lends a part cites; `LentBoth` is that for the rows lent together with the sort's work area.
 -- Assumes nothing.
 use Rattle.std.specs.Prelude.{List, ◌≡◌, ◌<◌, ◌^◌, ℕ, drop, length, set}
 use Rattle.std.proofs.Common.{◌∙◌, ap, subst, sym}

@@ -4,6 +4,5 @@ pub mod Back
 pub mod Lent
 pub mod Idle
 pub mod Both
-pub mod Zero
 pub mod Head
 pub mod Written

@@ -1,12 +1,14 @@
 -- The head as it is written: `written` is the head in which the numbers of a struct stand, `numbers` its inverse, and `fresh_head` that of a fresh graph.
 -- `Noted` says of words that nothing but their head has changed.
 -- Assumes nothing.
-use Rattle.std.specs.Prelude.{Bool, false, true, List, [], ◌++◌, ◌∷◌, ◌≡◌, refl, ◌<◌, ◌≤◌, ℕ, eqb, drop, length, replicate, set, take}
-use Rattle.std.proofs.Common.{◌∙◌, ap, subst, sym, arith, length-drop, length-set, drop_at, length-take-le}
+use Rattle.std.specs.Int.{from_bool}
+use Rattle.std.specs.Prelude.{◌-◌, Bool, false, true, List, [], ◌++◌, ◌∷◌, ◌≡◌, refl, ◌≤◌, ℕ, eqb, drop, length, replicate, take}
+use Rattle.std.proofs.Common.{◌∙◌, ap, subst, sym, arith, length-drop, length-take-le}
+use Rattle.std.proofs.lemmas.List.{drop_all}
 use borrow.Rule.Slice.PartMut.{same_len_mid}
-use Rattle.lists.specs.Parts.{part, part_length, with_part}
+use Rattle.lists.specs.Parts.{part_length, with_part}
 use Rattle.lists.specs.Reads.{at}
-use Rattle.layout.specs.Back.{back_head, set_view}
+use Rattle.layout.specs.Back.{back_head}
 use Rattle.layout.specs.Head.{HeadIs, HeadOk, numbers}
 use Rattle.layout.specs.View.{View, hd, hd_length, put_head, view, view_head}
 use Rattle.layout.specs.declared.Head.{Head}
@@ -15,6 +17,10 @@ use Rattle.layout.specs.declared.Head.{Head}
 abbrev pub bit : Bool → ℕ
 bit true = 1
 bit false = 0
+
+bit_is : (b : Bool) → from_bool b ≡ bit b
+bit_is true = refl
+bit_is false = refl
 
 -- the head h with the numbers of s in the first seven words; the spare words stay
 unfoldable pub written : List ℕ → Head → List ℕ
@@ -71,19 +77,7 @@ pub length_written : (h : List ℕ) (s : Head) → 7 ≤ length h → length (wr
 unfolding written
 length_written h s l = simp length-drop (omega arith)
 
--- seven stores are the head written
-sets_written : (h : List ℕ) (a b c d e f g : ℕ) → 7 ≤ length h
-    → set (set (set (set (set (set (set h 0 a) 1 b) 2 c) 3 d) 4 e) 5 f) 6 g ≡ a ∷ b ∷ c ∷ d ∷ e ∷ f ∷ g ∷ drop 7 h
-sets_written [] a b c d e f g l = absurd (omega arith)
-sets_written (x0 ∷ []) a b c d e f g l = absurd (omega arith)
-sets_written (x0 ∷ x1 ∷ []) a b c d e f g l = absurd (omega arith)
-sets_written (x0 ∷ x1 ∷ x2 ∷ []) a b c d e f g l = absurd (omega arith)
-sets_written (x0 ∷ x1 ∷ x2 ∷ x3 ∷ []) a b c d e f g l = absurd (omega arith)
-sets_written (x0 ∷ x1 ∷ x2 ∷ x3 ∷ x4 ∷ []) a b c d e f g l = absurd (omega arith)
-sets_written (x0 ∷ x1 ∷ x2 ∷ x3 ∷ x4 ∷ x5 ∷ []) a b c d e f g l = absurd (omega arith)
-sets_written (x0 ∷ x1 ∷ x2 ∷ x3 ∷ x4 ∷ x5 ∷ x6 ∷ h) a b c d e f g l = refl
-
--- ---- stores into the head
+-- ---- words put into the head
 
 pub noted_hd : {ws ws' h : List ℕ} → Noted ws ws' h → hd ws' ≡ h
 noted_hd {ws} {ws'} t = sym (view_head 0 0 ws') ∙ ap (λ (x : View). x.head) (t.else 0 0)
@@ -102,33 +96,22 @@ noted_next n m ws ws' s v t e =
 pub noted_is : {ws ws' h : List ℕ} {s : Head} → Noted ws ws' h → HeadIs (length ws) h s → HeadIs (length ws') (hd ws') s
 noted_is t q = rw (noted_hd t, t.size) q
 
-noted_more : (ws ws' h : List ℕ) (k v : ℕ) → k < 32 → Noted ws ws' h → Noted ws (set ws' k v) (set h k v)
-noted_more ws ws' h k v l t = record {
-  size = length-set ws' k v ∙ t.size;
-  else = λ n m.
-      let e = t.else n m in
-      let f : hd ws' ≡ h = noted_hd t in
-      set_view n m k v ws' l ∙ rw (e, f) refl;
+-- the words from a up to e of the head came back as ys
+noted_part : (a e : ℕ) (ws ys : List ℕ) → a ≤ e → e ≤ 32 → 32 ≤ length ws → length ys ≡ e - a → Noted ws (with_part ws a e ys) (with_part (hd ws) a e ys)
+noted_part a e ws ys ae h f l = record {
+  size = same_len_mid a (e - a) ws ys (l ∙ sym (part_length ws a e (omega arith)));
+  else = λ n m. back_head n m a e ws ys ae h f l;
 }
 
-noted_none : (ws : List ℕ) → Noted ws ws (hd ws)
-unfolding view
-noted_none ws = record { size = refl; else = λ n m. refl }
-
--- the seven stores of `write_head`
-pub noted_written : (ws : List ℕ) (s : Head) (b : ℕ) → 32 ≤ length ws → b ≡ bit s.clean
-    → Noted ws (set (set (set (set (set (set (set ws 0 s.n) 1 s.m) 2 s.ids) 3 s.places) 4 s.depth) 5 s.classes) 6 b) (written (hd ws) s)
+-- the seven words of `write_head`
+pub noted_written : (ws ys : List ℕ) (s : Head) (b : ℕ)
+    → 32 ≤ length ws → ys ≡ s.n ∷ s.m ∷ s.ids ∷ s.places ∷ s.depth ∷ s.classes ∷ b ∷ [] → b ≡ from_bool s.clean
+    → Noted ws (ys ++ drop 7 ws) (written (hd ws) s)
 unfolding written
-noted_written ws s b long eb =
-    let w = sets_written (hd ws) s.n s.m s.ids s.places s.depth s.classes b (omega (arith, hd_length ws long)) in
-    rw (← eb, ← w)
-    (noted_more _ _ _ 6 b (omega arith)
-    (noted_more _ _ _ 5 s.classes (omega arith)
-    (noted_more _ _ _ 4 s.depth (omega arith)
-    (noted_more _ _ _ 3 s.places (omega arith)
-    (noted_more _ _ _ 2 s.ids (omega arith)
-    (noted_more _ _ _ 1 s.m (omega arith)
-    (noted_more _ _ _ 0 s.n (omega arith) (noted_none ws))))))))
+noted_written ws ys s b long e eb =
+    let c : b ≡ bit s.clean = eb ∙ bit_is s.clean in
+    subst (λ (x : ℕ). Noted ws (ys ++ drop 7 ws) (s.n ∷ s.m ∷ s.ids ∷ s.places ∷ s.depth ∷ s.classes ∷ x ∷ drop 7 (hd ws))) c
+    (subst (λ (l : List ℕ). Noted ws (ys ++ drop 7 ws) (l ++ drop 7 (hd ws))) e (noted_part 0 7 ws ys (omega arith) (omega arith) long (ap length e)))
 
 -- ---- the head of a fresh graph
 
@@ -144,19 +127,13 @@ pub fresh_spare : (n m : ℕ) → drop 7 (fresh_head n m) ≡ replicate 25 0
 unfolding fresh_head
 fresh_spare n m = refl
 
-fresh_written : (h : List ℕ) (n m : ℕ) → drop 7 h ≡ replicate 25 0 → written h (fresh_numbers n m) ≡ fresh_head n m
+-- the words of the head set to 0, and then the numbers written
+pub noted_fresh : (ws ys ws2 : List ℕ) (n m : ℕ) → 32 ≤ length ws → ys ≡ replicate (length (take 32 ws)) 0
+    → Noted (ys ++ drop 32 ws) ws2 (written (hd (ys ++ drop 32 ws)) (fresh_numbers n m)) → Noted ws ws2 (fresh_head n m)
 unfolding written fresh_head
-fresh_written h n m e = ap (λ (t : List ℕ). n ∷ m ∷ 0 ∷ 0 ∷ 0 ∷ 0 ∷ 0 ∷ t) e
-
--- the spare words set to 0, and then the numbers written
-pub noted_fresh : (ws ys ws2 : List ℕ) (n m : ℕ) → 32 ≤ length ws → ys ≡ replicate (length (part ws 7 32)) 0
-    → Noted (with_part ws 7 32 ys) ws2 (written (hd (with_part ws 7 32 ys)) (fresh_numbers n m)) → Noted ws ws2 (fresh_head n m)
 noted_fresh ws ys ws2 n m long e t =
-    let l : length (part ws 7 32) ≡ 25 = part_length ws 7 32 long in
-    let y : ys ≡ replicate 25 0 = e ∙ ap (λ (k : ℕ). replicate k 0) l in
-    let ly : length ys ≡ 25 = ap length y in
-    let z : Noted ws (with_part ws 7 32 ys) (take 7 ws ++ ys) =
-    record { size = same_len_mid 7 25 ws ys (ly ∙ sym l); else = λ n m. back_head n m 7 ws ys (omega arith) long ly } in
-    let d : drop 7 (hd (with_part ws 7 32 ys)) ≡ replicate 25 0 =
-    ap (λ (x : List ℕ). drop 7 x) (noted_hd z) ∙ drop_at (take 7 ws) ys 7 (length-take-le 7 ws (omega arith)) ∙ y in
-    noted_then z (subst (λ (x : List ℕ). Noted (with_part ws 7 32 ys) ws2 x) (fresh_written (hd (with_part ws 7 32 ys)) n m d) t)
+    let y : ys ≡ replicate 32 0 = e ∙ ap (λ (k : ℕ). replicate k 0) (length-take-le 32 ws long) in
+    let z = noted_part 0 32 ws ys (omega arith) (omega arith) long (ap length y) in
+    let d : drop 7 (hd (ys ++ drop 32 ws)) ≡ replicate 25 0 =
+    ap (λ (l : List ℕ). drop 7 l) (noted_hd z) ∙ rw (y, drop_all 32 (hd ws) (omega (arith, hd_length ws long))) in
+    noted_then z (subst (λ (l : List ℕ). Noted (ys ++ drop 32 ws) ws2 (n ∷ m ∷ 0 ∷ 0 ∷ 0 ∷ 0 ∷ 0 ∷ l)) d t)

@@ -6,7 +6,14 @@ ghost use Rattle.layout.specs.View.{view};
 ghost use Rattle.layout.specs.Lent.{Lent, Stored, Loaded};
 ghost use Rattle.layout.specs.Head.{Fits};
 
-use super::{Head, is_zero, load, zero};
+use super::Head;
+
+fn load(ws: &[u32], i: usize) -> usize
+    requires { i < length ws.now }
+    ensures { Loaded ws.now i result }
+{
+    ws[i] as usize
+}
 
 fn store(ws: &mut [u32], i: usize, v: usize)
     requires { (i < length ws.old) × (v < 2 ^ 32) }
@@ -21,11 +28,7 @@ pub fn owner(ws: &[u32], h: Head, place: usize) -> usize
     requires place_lt_m { place < h.m }
     ensures { Loaded (view h.n h.m ws.now).owners place result }
 {
-    let n = h.n;
-    let m = h.m;
-    let a = 32 + 10 * n + 3 * m;
-    let e = a + m;
-    load(&ws[a..e], place)
+    load(&ws[h.owners()], place)
 }
 
 pub fn set_owner(ws: &mut [u32], h: Head, place: usize, id: usize)
@@ -33,11 +36,7 @@ pub fn set_owner(ws: &mut [u32], h: Head, place: usize, id: usize)
     requires place_lt_m { (place < h.m) × (id < 2 ^ 32) }
     ensures { Lent owners h.n h.m (Stored place id) ws.old ws.new }
 {
-    let n = h.n;
-    let m = h.m;
-    let a = 32 + 10 * n + 3 * m;
-    let e = a + m;
-    store(&mut ws[a..e], place, id);
+    store(&mut ws[h.owners()], place, id);
 }
 
 // Word i of the scratch part.
@@ -46,11 +45,7 @@ pub fn scratch(ws: &[u32], h: Head, i: usize) -> usize
     requires i_bound { i < 6 * h.n }
     ensures { Loaded (view h.n h.m ws.now).scratch i result }
 {
-    let n = h.n;
-    let m = h.m;
-    let a = 32 + 22 * n + 4 * m;
-    let e = a + 6 * n;
-    load(&ws[a..e], i)
+    load(&ws[h.scratch()], i)
 }
 
 pub fn set_scratch(ws: &mut [u32], h: Head, i: usize, v: usize)
@@ -58,11 +53,7 @@ pub fn set_scratch(ws: &mut [u32], h: Head, i: usize, v: usize)
     requires i_bound { (i < 6 * h.n) × (v < 2 ^ 32) }
     ensures { Lent scratch h.n h.m (Stored i v) ws.old ws.new }
 {
-    let n = h.n;
-    let m = h.m;
-    let a = 32 + 22 * n + 4 * m;
-    let e = a + 6 * n;
-    store(&mut ws[a..e], i, v);
+    store(&mut ws[h.scratch()], i, v);
 }
 
 // Whether the scratch part is 0.
@@ -70,11 +61,7 @@ pub fn scratch_is_clear(ws: &[u32], h: Head) -> bool
     requires { Fits (length ws.now) h }
     ensures { Says result ((view h.n h.m ws.now).scratch ≡ replicate (6 * h.n) 0) }
 {
-    let n = h.n;
-    let m = h.m;
-    let a = 32 + 22 * n + 4 * m;
-    let e = a + 6 * n;
-    is_zero(&ws[a..e])
+    ws[h.scratch()].iter().all(|w| *w == 0)
 }
 
 // Sets the scratch part to 0.
@@ -82,11 +69,7 @@ pub fn clear_scratch(ws: &mut [u32], h: Head)
     requires { Fits (length ws.old) h }
     ensures { Lent scratch h.n h.m (λ s s'. s' ≡ replicate (6 * h.n) 0) ws.old ws.new }
 {
-    let n = h.n;
-    let m = h.m;
-    let a = 32 + 22 * n + 4 * m;
-    let e = a + 6 * n;
-    zero(&mut ws[a..e]);
+    ws[h.scratch()].fill(0);
 }
 
 // Word i of the work area of the sort.
@@ -95,11 +78,7 @@ pub fn work(ws: &[u32], h: Head, i: usize) -> usize
     requires i_bound { i < 2 * h.n }
     ensures { Loaded (view h.n h.m ws.now).sorting i result }
 {
-    let n = h.n;
-    let m = h.m;
-    let a = 32 + 5 * n + 2 * m;
-    let e = a + 2 * n;
-    load(&ws[a..e], i)
+    load(&ws[h.sorting()], i)
 }
 
 pub fn set_work(ws: &mut [u32], h: Head, i: usize, v: usize)
@@ -107,9 +86,5 @@ pub fn set_work(ws: &mut [u32], h: Head, i: usize, v: usize)
     requires i_bound { (i < 2 * h.n) × (v < 2 ^ 32) }
     ensures { Lent sorting h.n h.m (Stored i v) ws.old ws.new }
 {
-    let n = h.n;
-    let m = h.m;
-    let a = 32 + 5 * n + 2 * m;
-    let e = a + 2 * n;
-    store(&mut ws[a..e], i, v);
+    store(&mut ws[h.sorting()], i, v);
 }

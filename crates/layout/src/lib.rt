@@ -14,25 +14,34 @@
 //   rest              32 + 28n + 4m        never touched
 //
 // Words of the head: 0 n, 1 m, 2 ids, 3 places, 4 depth of pending, 5 classes, 6 clean (0 or 1); 7 to 31 are spare, and 0 after setup.
-// A function that lends a part writes its bounds in the sums of `lower` and `upper` of specs/Cut.antt, and promises `Lent` of specs/Lent.antt.
+// A head answers the range of each part, so that `&ws[h.owners()]` lends the owners; a function that lends a part promises `Lent` of specs/Lent.antt.
 #![tactic(auto)]
 
-pub mod arrays; // arrays.rt: owners and scratch, which are plain arrays
+pub mod arrays; // arrays.rt: the parts that are plain arrays
+mod ranges; // ranges.rt: where each part lies
 
-ghost use Rattle.std.specs.Prelude.{◌≡◌, ◌≤◌, ◌<◌, length, replicate};
+ghost use Rattle.std.specs.Prelude.{◌≡◌, ◌≤◌, length};
 ghost use Rattle.lists.specs.Tests.{Says};
 ghost use Rattle.layout.specs.Cut.{need as needed};
 ghost use Rattle.layout.specs.View.{hd};
-ghost use Rattle.layout.specs.Lent.{Loaded};
-ghost use Rattle.layout.specs.Head.{numbers, HeadOk, HeadSays};
-ghost use Rattle.layout.specs.Written.{bit, written, fresh_numbers, fresh_head, Noted};
+ghost use Rattle.layout.specs.Head.{HeadOk, HeadSays};
+ghost use Rattle.layout.specs.Written.{written, fresh_numbers, fresh_head, Noted};
 
 pub use arrays::{
     clear_scratch, owner, scratch, scratch_is_clear, set_owner, set_scratch, set_work, work,
 };
 
+// The most ids that a graph may be set up for.
+pub const MAX_IDS: usize = 65536;
+
+// The most child places that a graph may be set up for.
+pub const MAX_PLACES: usize = 262144;
+
+// The words of the head.
+const HEAD_WORDS: usize = 32;
+
 // The numbers that stand in the head.
-#[derive(Clone, Copy)]
+#[derive(Clone, Copy, Debug, PartialEq, Eq)]
 pub struct Head {
     pub n: usize,
     pub m: usize,
@@ -43,143 +52,70 @@ pub struct Head {
     pub clean: bool,
 }
 
-#[derive(Clone, Copy)]
-pub enum HeadRead {
-    HeadGood(Head),
-    HeadBad,
-}
-
 // The words that the limits need.
 pub fn need(n: usize, m: usize) -> usize
     requires { (n ≤ 65536) × (m ≤ 262144) }
     ensures { result ≡ needed n m }
 {
-    32 + 28 * n + 4 * m
+    HEAD_WORDS + 28 * n + 4 * m
 }
 
-// ---- words of a slice
-
-fn load(ws: &[u32], i: usize) -> usize
-    requires { i < length ws.now }
-    ensures { Loaded ws.now i result }
+// Whether a graph may be set up for n ids and m child places.
+pub fn limits_fit(n: usize, m: usize) -> bool
+    ensures { Says result ((1 ≤ n) × (n ≤ 65536) × (m ≤ 262144)) }
 {
-    ws[i] as usize
-}
-
-// Sets every word of the slice to 0.
-fn zero(ws: &mut [u32])
-    ensures { ws.new ≡ replicate (length ws.old) 0 }
-{
-    let mut i = 0;
-    while i < ws.len() {
-        ws[i] = 0;
-        i += 1;
-    }
-}
-
-// Whether every word of the slice is 0.
-fn is_zero(ws: &[u32]) -> bool
-    ensures { Says result (ws.now ≡ replicate (length ws.now) 0) }
-{
-    let mut i = 0;
-    while i < ws.len() {
-        if ws[i] != 0 {
-            return false;
-        }
-        i += 1;
-    }
-    true
-}
-
-// ---- the head
-
-fn flag(clean: bool) -> u32
-    ensures { result ≡ bit clean }
-{
-    if clean { 1 } else { 0 }
-}
-
-fn read_numbers(ws: &[u32]) -> Head
-    requires { 32 ≤ length ws.now }
-    ensures { result ≡ numbers (hd ws.now) }
-{
-    let n = load(ws, 0);
-    let m = load(ws, 1);
-    let ids = load(ws, 2);
-    let places = load(ws, 3);
-    let depth = load(ws, 4);
-    let classes = load(ws, 5);
-    let clean = load(ws, 6);
-    Head {
-        n,
-        m,
-        ids,
-        places,
-        depth,
-        classes,
-        clean: clean == 1,
-    }
+    (1..=MAX_IDS).contains(&n) && m <= MAX_PLACES
 }
 
 // Whether the numbers are in range, and `len` words are as many as the limits need.
 fn in_range(h: Head, len: usize) -> bool
     ensures { Says result (HeadOk len h) }
 {
-    if h.n < 1 {
-        return false;
-    }
-    if 65536 < h.n {
-        return false;
-    }
-    if 262144 < h.m {
-        return false;
-    }
-    if h.n < h.ids {
-        return false;
-    }
-    if h.m < h.places {
-        return false;
-    }
-    if 2 * h.n < h.depth {
-        return false;
-    }
-    if h.ids < h.classes {
-        return false;
-    }
-    if len < need(h.n, h.m) {
-        return false;
-    }
-    true
+    (1..=MAX_IDS).contains(&h.n)
+        && h.m <= MAX_PLACES
+        && h.ids <= h.n
+        && h.places <= h.m
+        && h.depth <= 2 * h.n
+        && h.classes <= h.ids
+        && need(h.n, h.m) <= len
 }
 
-pub fn read_head(ws: &[u32]) -> HeadRead
+// The head that stands in the words, if it is a good one of as many words as are lent.
+pub fn read_head(ws: &[u32]) -> Option<Head>
     ensures { HeadSays (length ws.now) (hd ws.now) result }
 {
-    if ws.len() < 32 {
-        return HeadRead::HeadBad;
+    let [n, m, ids, places, depth, classes, clean, ..] = *ws else {
+        return None;
+    };
+    if 1 < clean {
+        return None;
     }
-    if 1 < load(ws, 6) {
-        return HeadRead::HeadBad;
-    }
-    let h = read_numbers(ws);
-    if in_range(h, ws.len()) {
-        return HeadRead::HeadGood(h);
-    }
-    HeadRead::HeadBad
+    let h = Head {
+        n: n as usize,
+        m: m as usize,
+        ids: ids as usize,
+        places: places as usize,
+        depth: depth as usize,
+        classes: classes as usize,
+        clean: clean == 1,
+    };
+    in_range(h, ws.len()).then_some(h)
 }
 
+// The numbers written into the head; its spare words stay.
 pub fn write_head(ws: &mut [u32], h: Head)
     requires { HeadOk (length ws.old) h }
     ensures { Noted ws.old ws.new (written (hd ws.old) h) }
 {
-    let clean = flag(h.clean);
-    ws[0] = h.n as u32;
-    ws[1] = h.m as u32;
-    ws[2] = h.ids as u32;
-    ws[3] = h.places as u32;
-    ws[4] = h.depth as u32;
-    ws[5] = h.classes as u32;
-    ws[6] = clean;
+    ws[..7].copy_from_slice(&[
+        h.n as u32,
+        h.m as u32,
+        h.ids as u32,
+        h.places as u32,
+        h.depth as u32,
+        h.classes as u32,
+        u32::from(h.clean),
+    ]);
 }
 
 // The head of a fresh graph, with all spare words 0.
@@ -187,20 +123,15 @@ pub fn fresh_head(ws: &mut [u32], n: usize, m: usize)
     requires { HeadOk (length ws.old) (fresh_numbers n m) }
     ensures { Noted ws.old ws.new (fresh_head n m) }
 {
-    // the spare words
-    let a = 7;
-    let e = 32;
-    zero(&mut ws[a..e]);
-    write_head(
-        ws,
-        Head {
-            n,
-            m,
-            ids: 0,
-            places: 0,
-            depth: 0,
-            classes: 0,
-            clean: false,
-        },
-    );
+    ws[..HEAD_WORDS].fill(0);
+    let h = Head {
+        n,
+        m,
+        ids: 0,
+        places: 0,
+        depth: 0,
+        classes: 0,
+        clean: false,
+    };
+    write_head(ws, h);
 }

@@ -9,12 +9,13 @@
 // 100,000 words, and runs out of stack at a million.
 #![tactic(auto)]
 
-ghost use Rattle.std.specs.Prelude.{true, [], ◌∷◌, ◌≡◌};
+ghost use Rattle.std.specs.Prelude.{Ok, None, Some, ◌≡◌, ◌≤◌, length};
+ghost use Rattle.language.specs.Term.{places};
 ghost use Rattle.marking.specs.Marks.{Added, AddedOver, Begun, Earned, Marked, RootSays, Stated, childless, mark_of};
 
-use egraph::{AddAnswer, CountAnswer, FindAnswer, SetupAnswer, UnionAnswer};
-use language::{Node, Op};
-use std::io;
+use egraph::Refusal;
+use language::{Id, Node, Op};
+use std::{fmt, io};
 
 // What 16 forms with 32 children in all need: 32 + 28 * 16 + 4 * 32.
 const WORDS: usize = 608;
@@ -28,111 +29,87 @@ const PLACES: Op = Op(2);
 // 3 is a decimal number, and its children are the digit before the point and what stands behind it.
 const DECIMAL: Op = Op(3);
 
-// What is said of an answer: nothing, where a call that the mark rests on was refused.
-#[derive(Clone, Copy)]
+// What is said of an answer, where no call that the mark rests on was refused.
+#[derive(Clone, Copy, PartialEq, Eq, Debug)]
 enum Mark {
-    MarkRight,
-    MarkWrong,
-    MarkNone,
+    Right,
+    Wrong,
 }
 
-// The marks of 0.50 and of 0.05.
-#[derive(Clone, Copy)]
+impl fmt::Display for Mark {
+    fn fmt<W: fmt::Write>(&self, f: &mut fmt::Formatter<W>) -> fmt::Result {
+        match self {
+            Mark::Right => write!(f, "right"),
+            Mark::Wrong => write!(f, "wrong"),
+        }
+    }
+}
+
+// The marks of 0.50 and of 0.05, where they could be given.
+#[derive(Clone, Copy, Default)]
 struct Marks {
-    careful: Mark,
-    mistaken: Mark,
+    careful: Option<Mark>,
+    mistaken: Option<Mark>,
 }
 
 // A form without children.
-fn leaf(ws: &mut [u32; WORDS], op: Op, payload: u32) -> AddAnswer
+fn leaf(ws: &mut [u32; WORDS], op: Op, payload: u32) -> Result<Id, Refusal>
     ensures { Added (childless op.0 payload) ws.old result ws.new }
 {
     egraph::add(ws, Node::leaf(op, payload))
 }
 
-// A form over one other. What `add` answered, an id or a refusal, is handed on as it is: a form over a refused one is refused too.
-fn over_one(ws: &mut [u32; WORDS], op: Op, child: AddAnswer) -> AddAnswer
-    ensures { AddedOver ws.old (childless op.0 0) (child ∷ []) result ws.new }
+// A form over others. What `add` answered of each, an id or a refusal, is handed in as it is: a form over a refused one is refused too.
+fn over(ws: &mut [u32; WORDS], op: Op, children: &[Result<Id, Refusal>]) -> Result<Id, Refusal>
+    requires { length children.now ≤ places }
+    ensures { AddedOver ws.old (childless op.0 0) children.now result ws.new }
 {
-    let AddAnswer::AddId(a) = child else {
-        return child;
-    };
-    egraph::add(ws, Node::leaf(op, 0).with(a))
+    let mut node = Node::leaf(op, 0);
+    for child in children {
+        let id = (*child)?;
+        node = node.with(id);
+    }
+    egraph::add(ws, node)
 }
 
-// A form over two others.
-fn over_two(ws: &mut [u32; WORDS], op: Op, first: AddAnswer, second: AddAnswer) -> AddAnswer
-    ensures { AddedOver ws.old (childless op.0 0) (first ∷ second ∷ []) result ws.new }
+// The author states that two forms are equal, and what follows is drawn.
+fn state(
+    ws: &mut [u32; WORDS],
+    one: Result<Id, Refusal>,
+    other: Result<Id, Refusal>,
+) -> Result<(), Refusal>
+    ensures { result ≡ Ok tt → Stated ws.old ws.new }
 {
-    let AddAnswer::AddId(a) = first else {
-        return first;
-    };
-    let AddAnswer::AddId(b) = second else {
-        return second;
-    };
-    egraph::add(ws, Node::leaf(op, 0).with(a).with(b))
-}
-
-// The author states that two forms are equal, and what follows is drawn. Answers whether all of it was accepted.
-fn state(ws: &mut [u32; WORDS], one: AddAnswer, other: AddAnswer) -> bool
-    ensures { result ≡ true → Stated ws.old ws.new }
-{
-    let AddAnswer::AddId(a) = one else {
-        return false;
-    };
-    let AddAnswer::AddId(b) = other else {
-        return false;
-    };
-    if let UnionAnswer::UnionNot(_) = egraph::union(ws, a, b) {
-        return false;
-    }
-    if let CountAnswer::CountNot(_) = egraph::rebuild(ws) {
-        return false;
-    }
-    true
+    egraph::union(ws, one?, other?)?;
+    egraph::rebuild(ws)?;
+    Ok(())
 }
 
 // The root of a form's class; of a refused form its refusal.
-fn root(ws: &[u32; WORDS], form: AddAnswer) -> FindAnswer
+fn root(ws: &[u32; WORDS], form: Result<Id, Refusal>) -> Result<Id, Refusal>
     ensures { RootSays ws.now form result }
 {
-    match form {
-        AddAnswer::AddId(id) => egraph::find(ws, id),
-        AddAnswer::AddNot(why) => FindAnswer::FindNot(why),
-    }
+    egraph::find(ws, form?)
 }
 
 // Right where both have one root, wrong where they have two, and no mark where either was refused.
-fn compare(answer: FindAnswer, key: FindAnswer) -> Mark
+fn compare(answer: Result<Id, Refusal>, key: Result<Id, Refusal>) -> Option<Mark>
     ensures { result ≡ mark_of answer key }
 {
-    let FindAnswer::FindRoot(x) = answer else {
-        return Mark::MarkNone;
-    };
-    let FindAnswer::FindRoot(y) = key else {
-        return Mark::MarkNone;
-    };
-    if x.0 == y.0 {
-        return Mark::MarkRight;
+    if answer.ok()? == key.ok()? {
+        return Some(Mark::Right);
     }
-    Mark::MarkWrong
+    Some(Mark::Wrong)
 }
 
-fn mark_answer(ws: &[u32; WORDS], answer: AddAnswer, key: AddAnswer) -> Mark
+fn mark_answer(
+    ws: &[u32; WORDS],
+    answer: Result<Id, Refusal>,
+    key: Result<Id, Refusal>,
+) -> Option<Mark>
     ensures { Marked ws.now answer key result }
 {
-    let a = root(ws, answer);
-    let k = root(ws, key);
-    compare(a, k)
-}
-
-fn unmarked() -> Marks
-    ensures { Earned result.careful × Earned result.mistaken }
-{
-    Marks {
-        careful: Mark::MarkNone,
-        mistaken: Mark::MarkNone,
-    }
+    compare(root(ws, answer), root(ws, key))
 }
 
 // Marks both answers in words that were set up. Without the author's statement a right answer may look wrong: where it was refused, neither
@@ -143,21 +120,19 @@ fn mark_both(ws: &mut [u32; WORDS]) -> Marks
 {
     let zero = leaf(ws, DIGIT, 0);
     let five = leaf(ws, DIGIT, 5);
-    let half = over_one(ws, PLACES, five);
-    let key = over_two(ws, DECIMAL, zero, half);
-    let padded = over_two(ws, PLACES, five, zero);
-    let careful = over_two(ws, DECIMAL, zero, padded);
-    let small = over_two(ws, PLACES, zero, five);
-    let mistaken = over_two(ws, DECIMAL, zero, small);
-    if state(ws, half, padded) {
-        let first = mark_answer(ws, careful, key);
-        let second = mark_answer(ws, mistaken, key);
-        return Marks {
-            careful: first,
-            mistaken: second,
-        };
+    let half = over(ws, PLACES, &[five]);
+    let key = over(ws, DECIMAL, &[zero, half]);
+    let padded = over(ws, PLACES, &[five, zero]);
+    let careful = over(ws, DECIMAL, &[zero, padded]);
+    let small = over(ws, PLACES, &[zero, five]);
+    let mistaken = over(ws, DECIMAL, &[zero, small]);
+    match state(ws, half, padded) {
+        Ok(()) => Marks {
+            careful: mark_answer(ws, careful, key),
+            mistaken: mark_answer(ws, mistaken, key),
+        },
+        Err(_) => Marks::default(),
     }
-    unmarked()
 }
 
 // Marks the sheet with room for n forms.
@@ -165,31 +140,27 @@ fn mark_sheet(ws: &mut [u32; WORDS], n: usize) -> Marks
     ensures { Earned result.careful × Earned result.mistaken }
 {
     match egraph::setup(ws, n, 32) {
-        SetupAnswer::SetupDone => mark_both(ws),
-        SetupAnswer::SetupNot(_) => unmarked(),
+        Ok(()) => mark_both(ws),
+        Err(_) => Marks::default(),
     }
 }
 
-fn say(rt: &impl Print, answer: &[u8], mark: Mark) -> io::Result<()> {
-    rt.write_all(answer)?;
+fn say(rt: &impl Print, answer: &str, mark: Option<Mark>) -> io::Result<()> {
     match mark {
-        Mark::MarkRight => rt.write_all(b" is right\n"),
-        Mark::MarkWrong => rt.write_all(b" is wrong\n"),
-        Mark::MarkNone => rt.write_all(b" is not marked\n"),
+        Some(m) => println!(rt; "{answer} is {m}"),
+        None => println!(rt; "{answer} is not marked"),
     }
 }
 
 fn tell(rt: &impl Print, marks: Marks) -> io::Result<()> {
-    let careful = marks.careful;
-    let mistaken = marks.mistaken;
-    say(rt, b"0.50", careful)?;
-    say(rt, b"0.05", mistaken)
+    say(rt, "0.50", marks.careful)?;
+    say(rt, "0.05", marks.mistaken)
 }
 
 fn main(rt: HostRuntime) -> io::Result<()> {
     let mut ws = [0u32; WORDS];
-    rt.write_all(b"With room for 16 forms:\n")?;
+    println!(rt; "With room for 16 forms:")?;
     tell(&rt, mark_sheet(&mut ws, 16))?;
-    rt.write_all(b"With room for 5 forms:\n")?;
+    println!(rt; "With room for 5 forms:")?;
     tell(&rt, mark_sheet(&mut ws, 5))
 }

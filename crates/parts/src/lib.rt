@@ -3,8 +3,6 @@
 // only where a part is lent is it unwrapped, and what the leaf answers is wrapped again.
 #![tactic(auto)]
 
-use language::Id;
-
 pub mod on_forest;
 pub mod on_members;
 pub mod on_owners;
@@ -13,17 +11,3 @@ pub mod on_rows;
 pub mod on_sorting;
 pub mod on_table;
 pub mod on_uses;
-
-// What a find answers: a root; or nothing, if the chain leaves the ids or does not end, which no forest does.
-#[derive(Clone, Copy)]
-pub enum Found {
-    FoundRoot(Id),
-    FoundLost,
-}
-
-// The entry pushed last: an id; or the last place and the count of a stretch.
-#[derive(Clone, Copy)]
-pub enum OnTop {
-    TopOne(Id),
-    TopMany(usize, usize),
-}

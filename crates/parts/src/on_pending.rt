@@ -5,22 +5,11 @@ ghost use Rattle.layout.specs.View.{view};
 ghost use Rattle.layout.specs.Lent.{Lent};
 ghost use Rattle.layout.specs.Head.{Fits};
 ghost use Rattle.pending.specs.Promise.{Pushes, PushesStretch, Tops};
-ghost use Rattle.parts.specs.Bare.{OneLow, bare_top};
+ghost use Rattle.parts.specs.Bare.{bare_top};
 
-use super::OnTop;
 use language::Id;
 use layout::Head;
-
-// What the stack answered, with one id as an id.
-fn wrapped(top: pending::OnTop) -> OnTop
-    requires { OneLow top }
-    ensures { bare_top result ≡ top }
-{
-    match top {
-        pending::OnTop::TopOne(x) => OnTop::TopOne(Id(x as u32)),
-        pending::OnTop::TopMany(last, count) => OnTop::TopMany(last, count),
-    }
-}
+use pending::OnTop;
 
 // One id pushed.
 pub fn push_one(ws: &mut [u32], h: Head, depth: usize, id: Id)
@@ -28,11 +17,7 @@ pub fn push_one(ws: &mut [u32], h: Head, depth: usize, id: Id)
     requires depth_bound { depth < 2 * h.n }
     ensures { Lent pending h.n h.m (λ w w'. Pushes w depth id.0 0 w') ws.old ws.new }
 {
-    let n = h.n;
-    let m = h.m;
-    let a = 32 + 18 * n + 4 * m;
-    let e = a + 4 * n;
-    pending::push_one(&mut ws[a..e], depth, id.0 as usize);
+    pending::push_one(&mut ws[h.pending()], depth, id.0 as usize);
 }
 
 // A stretch of places pushed, if it has any; the new depth.
@@ -41,22 +26,17 @@ pub fn push_stretch(ws: &mut [u32], h: Head, depth: usize, last: usize, count: u
     requires depth_bound { (depth < 2 * h.n) × (last < 2 ^ 32) × (count < 2 ^ 32) }
     ensures { Lent pending h.n h.m (λ w w'. PushesStretch w depth last count result w') ws.old ws.new }
 {
-    let n = h.n;
-    let m = h.m;
-    let a = 32 + 18 * n + 4 * m;
-    let e = a + 4 * n;
-    pending::push_stretch(&mut ws[a..e], depth, last, count)
+    pending::push_stretch(&mut ws[h.pending()], depth, last, count)
 }
 
 // The entry pushed last.
-pub fn top(ws: &[u32], h: Head, depth: usize) -> OnTop
+pub fn top(ws: &[u32], h: Head, depth: usize) -> OnTop<Id>
     requires fits { Fits (length ws.now) h }
     requires depth_nonzero { (0 < depth) × (depth ≤ 2 * h.n) }
     ensures { Tops (view h.n h.m ws.now).pending depth (bare_top result) }
 {
-    let n = h.n;
-    let m = h.m;
-    let a = 32 + 18 * n + 4 * m;
-    let e = a + 4 * n;
-    wrapped(pending::top(&ws[a..e], depth))
+    match pending::top(&ws[h.pending()], depth) {
+        OnTop::TopOne(id) => OnTop::TopOne(Id(id as u32)),
+        OnTop::TopMany(last, count) => OnTop::TopMany(last, count),
+    }
 }

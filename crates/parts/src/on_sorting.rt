@@ -7,6 +7,7 @@ ghost use Rattle.layout.specs.Head.{Fits};
 ghost use Rattle.layout.specs.Both.{LentBoth};
 ghost use Rattle.sorting.specs.Promise.{Sorts};
 
+use broken::Broken;
 use language::Id;
 use layout::Head;
 
@@ -30,15 +31,10 @@ pub fn set_work(ws: &mut [u32], h: Head, i: usize, id: Id)
 }
 
 // The first k words of the work area sorted by the keys of the ids that stand there; the stored nodes are lent with it, and stay as they are.
-pub fn sort(ws: &mut [u32], h: Head, k: usize) -> sorting::Sorted
+pub fn sort(ws: &mut [u32], h: Head, k: usize) -> Result<usize, Broken>
     requires fits { Fits (length ws.old) h }
     requires k_le_n { k ≤ h.n }
     ensures { LentBoth h.n h.m (λ w w'. Sorts w w' h.n h.m k result) ws.old ws.new }
 {
-    let n = h.n;
-    let m = h.m;
-    let a = 32 + n;
-    let b = 32 + 5 * n + 2 * m;
-    let e = b + 2 * n;
-    sorting::sort(&mut ws[a..e], n, m, k)
+    sorting::sort(&mut ws[h.rows_and_sorting()], h.n, h.m, k)
 }

@@ -8,33 +8,32 @@ ghost use Rattle.cells.specs.Changes.{Pushed, Joined};
 ghost use Rattle.cells.specs.Reading.{Word};
 ghost use Rattle.cells.specs.Empty.{Cleared};
 
+use broken::Broken;
 use language::Id;
 use layout::Head;
 
 // A child place at the end of a list.
-pub fn push(ws: &mut [u32], h: Head, list: Id, place: usize) -> cells::Change
+pub fn push(ws: &mut [u32], h: Head, list: Id, place: usize) -> Result<(), Broken>
     requires fits { Fits (length ws.old) h }
     requires list_lt_n { (list.0 < h.n) × (place < h.m) }
     ensures { Lent uses h.n h.m (λ w w'. Pushed w w' h.n h.m list.0 place result) ws.old ws.new }
 {
-    let n = h.n;
-    let m = h.m;
-    let a = 32 + 7 * n + 2 * m;
-    let e = a + 3 * n + m;
-    cells::push(&mut ws[a..e], n, m, list.0 as usize, place)
+    cells::push(&mut ws[h.uses()], h.n, h.m, list.0 as usize, place)
 }
 
 // The list `lose` goes to the end of the list `stay`.
-pub fn join(ws: &mut [u32], h: Head, stay: Id, lose: Id) -> cells::Change
+pub fn join(ws: &mut [u32], h: Head, stay: Id, lose: Id) -> Result<(), Broken>
     requires fits { Fits (length ws.old) h }
     requires stay_lt_n { (stay.0 < h.n) × (lose.0 < h.n) × (stay.0 ≢ lose.0) }
     ensures { Lent uses h.n h.m (λ w w'. Joined w w' h.n h.m stay.0 lose.0 result) ws.old ws.new }
 {
-    let n = h.n;
-    let m = h.m;
-    let a = 32 + 7 * n + 2 * m;
-    let e = a + 3 * n + m;
-    cells::join(&mut ws[a..e], n, m, stay.0 as usize, lose.0 as usize)
+    cells::join(
+        &mut ws[h.uses()],
+        h.n,
+        h.m,
+        stay.0 as usize,
+        lose.0 as usize,
+    )
 }
 
 // The length of a list.
@@ -43,11 +42,7 @@ pub fn len(ws: &[u32], h: Head, list: Id) -> usize
     requires list_lt_n { list.0 < h.n }
     ensures { Word (view h.n h.m ws.now).uses (list.0 + h.n + h.n) result }
 {
-    let n = h.n;
-    let m = h.m;
-    let a = 32 + 7 * n + 2 * m;
-    let e = a + 3 * n + m;
-    cells::len(&ws[a..e], n, list.0 as usize)
+    cells::len(&ws[h.uses()], h.n, list.0 as usize)
 }
 
 // The last place of a list; it says nothing of an empty list.
@@ -56,11 +51,7 @@ pub fn last(ws: &[u32], h: Head, list: Id) -> usize
     requires list_lt_n { list.0 < h.n }
     ensures { Word (view h.n h.m ws.now).uses list.0 result }
 {
-    let n = h.n;
-    let m = h.m;
-    let a = 32 + 7 * n + 2 * m;
-    let e = a + 3 * n + m;
-    cells::last(&ws[a..e], n, list.0 as usize)
+    cells::last(&ws[h.uses()], h.n, list.0 as usize)
 }
 
 // The place before another; it says nothing of the first of a list.
@@ -69,11 +60,7 @@ pub fn link(ws: &[u32], h: Head, place: usize) -> usize
     requires place_lt_m { place < h.m }
     ensures { Word (view h.n h.m ws.now).uses (h.n + h.n + h.n + place) result }
 {
-    let n = h.n;
-    let m = h.m;
-    let a = 32 + 7 * n + 2 * m;
-    let e = a + 3 * n + m;
-    cells::link(&ws[a..e], n, m, place)
+    cells::link(&ws[h.uses()], h.n, h.m, place)
 }
 
 // Every list empty.
@@ -81,9 +68,5 @@ pub fn clear(ws: &mut [u32], h: Head)
     requires { Fits (length ws.old) h }
     ensures { Lent uses h.n h.m (λ w w'. Cleared w w' h.n h.n) ws.old ws.new }
 {
-    let n = h.n;
-    let m = h.m;
-    let a = 32 + 7 * n + 2 * m;
-    let e = a + 3 * n + m;
-    cells::clear(&mut ws[a..e], n);
+    cells::clear(&mut ws[h.uses()], h.n);
 }

@@ -3,8 +3,7 @@
 -- Assumes nothing.
 use Rattle.std.specs.Prelude.{◌≡◌, refl, List, [], ◌∷◌, ◌++◌, reverse, ℕ, suc, ◌+◌, ◌-◌, ◌<◌, ◌≤◌, length, take}
 use Rattle.std.proofs.Common.{sym, ap, ◌∙◌, arith, length-take-le}
-use Rattle.lists.specs.Reads.{at}
-use Rattle.lists.specs.Reads.{reverse_last}
+use Rattle.lists.specs.Reads.{at, reverse_last}
 use Rattle.lists.specs.Tests.{zero_one}
 use Rattle.pending.specs.Stack.{Entries, Stack, stretched, stack_frame, stack_determined}
 use Rattle.pending.specs.Stands.{Stands, none, one, many, stands_map, stands_stretched, total, stands_length, total_le, stands_determined}
@@ -54,7 +53,7 @@ module _ {S : ℕ → ℕ → List ℕ → Type 0} where
 
   -- ---- the two moves
 
-  pub take_one : {ps : List ℕ} {d i : ℕ} {r : OnTop} {is : List ℕ} → Pending S ps d is → 0 < d → Tops ps d r → r ≡ TopOne i → Taken S ps (d - 1) i is
+  pub take_one : {ps : List ℕ} {d i : ℕ} {r : OnTop ℕ} {is : List ℕ} → Pending S ps d is → 0 < d → Tops ps d r → r ≡ TopOne i → Taken S ps (d - 1) i is
   take_one {ps} {d} {i} {r} {is} p some t e = go p.entries is p.size p.stack p.stands
     where
       go : (es : Entries) (is : List ℕ) → length es ≡ d → Stack ps es → Stands S es is → Taken S ps (d - 1) i is
@@ -66,7 +65,7 @@ module _ {S : ℕ → ℕ → List ℕ → Type 0} where
           let f = sym (t.law c (suc k) es (omega arith) s) ∙ e in
           zero_one cc
 
-  pub top_stretch : {ps : List ℕ} {d c k : ℕ} {r : OnTop} {is : List ℕ} → Pending S ps d is → 0 < d → Tops ps d r → r ≡ TopMany c k → StretchOn S ps (d - 1) c k is
+  pub top_stretch : {ps : List ℕ} {d c k : ℕ} {r : OnTop ℕ} {is : List ℕ} → Pending S ps d is → 0 < d → Tops ps d r → r ≡ TopMany c k → StretchOn S ps (d - 1) c k is
   top_stretch {ps} {d} {c} {k} {r} {is} p some t e = go p.entries is p.size p.stack p.stands
     where
       go : (es : Entries) (is : List ℕ) → length es ≡ d → Stack ps es → Stands S es is → StretchOn S ps (d - 1) c k is

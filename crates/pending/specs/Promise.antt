@@ -2,7 +2,7 @@
 -- leave certain, `law` what it does to a stack of entries.
 -- Assumes nothing.
 use Rattle.std.specs.Prelude.{◌≡◌, refl, ◌≢◌, List, [], ◌∷◌, ℕ, zero, suc, ◌+◌, ◌-◌, ◌≤◌, ◌<◌, ◌^◌, length}
-use Rattle.std.proofs.Common.{sym, ap, ◌∙◌, arith}
+use Rattle.std.proofs.Common.{arith}
 use Rattle.lists.specs.Reads.{at}
 use Rattle.lists.specs.Stores.{puts_length, puts_miss}
 use Rattle.lists.specs.Tests.{zero_one}
@@ -11,15 +11,11 @@ use Rattle.pending.specs.declared.OnTop.{OnTop}
 use Rattle.pending.specs.declared.OnTop.TheVariants.{TopOne, TopMany}
 
 -- what an entry shows
-abbrev pub shown : ℕ → ℕ → OnTop
+abbrev pub shown : ℕ → ℕ → OnTop ℕ
 shown x zero = TopOne x
 shown x (suc k) = TopMany x (suc k)
 
 -- ---- the promises
-
-pub record Loaded (ps : List ℕ) (i r : ℕ) : Type 0 where
-  pub is : r ≡ at ps i
-  pub small : r < 2 ^ 32
 
 -- of `push_one` with the count 0
 pub record Pushes (ps : List ℕ) (d x k : ℕ) (ps' : List ℕ) : Type 0 where
@@ -39,7 +35,7 @@ pub record PushesStretch (ps : List ℕ) (d c k r : ℕ) (ps' : List ℕ) : Type
   pub past : (i : ℕ) → d + d + 1 < i → at ps' i ≡ at ps i
   pub law : (es : Entries) → length es ≡ d → Stack ps es → (length (stretched c k es) ≡ r) × Stack ps' (stretched c k es)
 
-pub record Tops (ps : List ℕ) (d : ℕ) (r : OnTop) : Type 0 where
+pub record Tops (ps : List ℕ) (d : ℕ) (r : OnTop ℕ) : Type 0 where
   pub exact : r ≡ shown (at ps (d - 1 + (d - 1))) (at ps (d - 1 + (d - 1) + 1))
   pub one_small : (x : ℕ) → r ≡ TopOne x → x < 2 ^ 32
   pub many_small : (c k : ℕ) → r ≡ TopMany c k → (c < 2 ^ 32) × (0 < k) × (k < 2 ^ 32)
@@ -56,31 +52,6 @@ pushes ps d x k room = record {
   law = stack_push ps d x k room;
 }
 
-pub stretch_none : (ps : List ℕ) (d c k : ℕ) → k ≡ 0 → PushesStretch ps d c k d ps
-stretch_none ps d c k z = record {
-  none = λ e. (refl, refl);
-  some = λ h. absurd (omega arith);
-  low = omega arith;
-  high = omega arith;
-  long = refl;
-  before = λ i h. refl;
-  past = λ i h. refl;
-  law = λ es e s. rw z (e, s);
-}
-
-pub stretch_some : (ps : List ℕ) (d c k : ℕ) (ps' : List ℕ) → k ≢ 0 → Pushes ps d c k ps' → PushesStretch ps d c k (d + 1) ps'
-stretch_some ps d c zero ps' n p = absurd (n refl)
-stretch_some ps d c (suc k) ps' n p = record {
-  none = λ z. absurd (omega arith);
-  some = λ h. (refl, p.exact);
-  low = omega arith;
-  high = omega arith;
-  long = p.long;
-  before = p.before;
-  past = p.past;
-  law = λ es e s. (omega arith, p.law es e s);
-}
-
 shown_one : (x k y : ℕ) → shown x k ≡ TopOne y → x ≡ y
 shown_one x zero y e = cc
 shown_one x (suc k) y e = zero_one cc
@@ -89,21 +60,24 @@ shown_many : (x k c n : ℕ) → shown x k ≡ TopMany c n → (x ≡ c) × (k �
 shown_many x zero c n e = zero_one cc
 shown_many x (suc k) c n e = (cc, cc, omega arith)
 
-tops : (ps : List ℕ) (d x k : ℕ) (r : OnTop) → Loaded ps (d - 1 + (d - 1)) x → Loaded ps (d - 1 + (d - 1) + 1) k → r ≡ shown x k → Tops ps d r
-tops ps d x k r a b e = record {
-  exact = e ∙ ap (λ (z : ℕ). shown z k) a.is ∙ ap (shown (at ps (d - 1 + (d - 1)))) b.is;
-  one_small = λ y f. let q = shown_one x k y (sym e ∙ f) in omega (arith, a.small);
-  many_small = λ c n f. let q = shown_many x k c n (sym e ∙ f) in omega (arith, a.small, b.small);
-  law = λ y n es l s.
-      let q : length es ≡ d - 1 = omega arith in
-      let u : x ≡ y = a.is ∙ (rw q at s.0) in
-      let v : k ≡ n = b.is ∙ (rw q at s.1) in
-      e ∙ rw (u, v) refl;
-}
+shown_some : (x k : ℕ) → k ≢ 0 → shown x k ≡ TopMany x k
+shown_some x zero n = absurd (n refl)
+shown_some x (suc k) n = refl
 
-pub top_one : (ps : List ℕ) (d x k : ℕ) → Loaded ps (d - 1 + (d - 1)) x → Loaded ps (d - 1 + (d - 1) + 1) k → k ≡ 0 → Tops ps d (TopOne x)
-top_one ps d x k a b z = tops ps d x k (TopOne x) a b (rw z refl)
+-- at b the words of the entry on top begin
+module _ (ps : List ℕ) (d b : ℕ) (on : b ≡ d - 1 + (d - 1)) (small : (i : ℕ) → at ps i < 2 ^ 32) where
+  tops : Tops ps d (shown (at ps b) (at ps (b + 1)))
+  tops = record {
+    exact = rw on refl;
+    one_small = λ y f. let q = shown_one _ _ y f in omega (arith, small b);
+    many_small = λ c n f. let q = shown_many _ _ c n f in omega (arith, small b, small (b + 1));
+    law = λ y n es l s.
+        let p : b ≡ length es + length es = omega arith in
+        rw (p, s.0, s.1) refl;
+  }
 
-pub top_many : (ps : List ℕ) (d x k : ℕ) → Loaded ps (d - 1 + (d - 1)) x → Loaded ps (d - 1 + (d - 1) + 1) k → k ≢ 0 → Tops ps d (TopMany x k)
-top_many ps d x zero a b n = absurd (n refl)
-top_many ps d x (suc k) a b n = tops ps d x (suc k) (TopMany x (suc k)) a b refl
+  pub top_one : at ps (b + 1) ≡ 0 → Tops ps d (TopOne (at ps b))
+  top_one z = rw z at tops
+
+  pub top_many : at ps (b + 1) ≢ 0 → Tops ps d (TopMany (at ps b) (at ps (b + 1)))
+  top_many n = rw (shown_some (at ps b) (at ps (b + 1)) n) at tops

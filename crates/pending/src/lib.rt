@@ -11,19 +11,13 @@
 #![tactic(auto)]
 
 ghost use Rattle.std.specs.Prelude.{◌+◌, ◌≤◌, ◌<◌, ◌^◌, length};
-ghost use Rattle.pending.specs.Promise.{Loaded, Pushes, PushesStretch, Tops};
+ghost use Rattle.pending.specs.Promise.{Pushes, PushesStretch, Tops};
 
+// The entry on top: an id, of whatever type the caller has for ids; or the last place and the count of a stretch.
 #[derive(Clone, Copy)]
-pub enum OnTop {
-    TopOne(usize),
+pub enum OnTop<I> {
+    TopOne(I),
     TopMany(usize, usize),
-}
-
-fn load(ps: &[u32], place: usize) -> usize
-    requires { place < length ps.now }
-    ensures { Loaded ps.now place result }
-{
-    ps[place] as usize
 }
 
 // The entry (x, count) on top of `depth` entries.
@@ -57,14 +51,14 @@ pub fn push_stretch(ps: &mut [u32], depth: usize, last: usize, count: usize) -> 
 }
 
 // The entry pushed last: an id; or the last place and the count of a stretch.
-pub fn top(ps: &[u32], depth: usize) -> OnTop
+pub fn top(ps: &[u32], depth: usize) -> OnTop<usize>
     requires { (0 < depth) × (depth + depth ≤ length ps.now) × (length ps.now < 2 ^ 32) }
     ensures { Tops ps.now depth result }
 {
     let below = depth - 1;
     let p = below + below;
-    let x = load(ps, p);
-    let count = load(ps, p + 1);
+    let x = ps[p] as usize;
+    let count = ps[p + 1] as usize;
     if count == 0 {
         return OnTop::TopOne(x);
     }

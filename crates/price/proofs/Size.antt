@@ -1,7 +1,6 @@
 -- What AstSize says: the size of a form is its number of nodes, capped; the size given for a class is the least of any finite form in it, and the listed form has it.
 -- Assumes nothing.
-use Rattle.std.specs.Prelude.{List, [], ◌∷◌, ◌≡◌, ◌+◌, ◌<◌, ◌≤◌, min, ℕ, length}
-use Rattle.std.proofs.Math.Option.{some}
+use Rattle.std.specs.Prelude.{List, [], ◌∷◌, ◌≡◌, ◌+◌, ◌<◌, ◌≤◌, min, ℕ, length, Some}
 use Rattle.std.proofs.Math.Decide.{dec_le}
 use Rattle.std.proofs.Common.{arith}
 use Rattle.steps.specs.Classes.{class_nodes, class_roots}
@@ -82,7 +81,7 @@ unfolding add_on
 size_fits a [] h = h
 size_fits a (p ∷ ps) h = size_fits (min (a + p) cap) ps (omega arith)
 
-pub size_listed : {us : List (ℕ × ℕ)} {g : Graph} → Made us g → (r : ℕ) (b : Best ℕ) → look r (table AstSize g) ≡ some b
+pub size_listed : {us : List (ℕ × ℕ)} {g : Graph} → Made us g → (r : ℕ) (b : Best ℕ) → look r (table AstSize g) ≡ Some b
     → (h : Lists AstSize g (table AstSize g) r b.price) × (min (ast_size h.shape) cap ≡ b.price)
 size_listed {us} {g} M r b e =
     let h = listed_form AstSize M r b e in

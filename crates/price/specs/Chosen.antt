@@ -1,9 +1,8 @@
 -- The nodes that the passes chose run in no circle, also where prices tie.
 -- Assumes nothing.
 use mathlib.Core.List.{List, [], ◌∷◌}
-use Rattle.std.specs.Prelude.{◌≢◌, ◌⊎◌, ◌≡◌}
+use Rattle.std.specs.Prelude.{◌≢◌, ◌⊎◌, ◌≡◌, Some}
 use Rattle.std.proofs.Common.{inl, inr, ◌∙◌, ap, sym}
-use Rattle.std.proofs.Math.Option.{some}
 use Rattle.std.proofs.Math.Path.{refl}
 use Prim.Native.Nat.{◌<◌, ◌≤◌, suc, zero, ℕ}
 use Rattle.std.proofs.Math.Decide.{ℕ_discrete}
@@ -32,12 +31,12 @@ module _ {P : Type 0} where
   unfolding age
   age_past r q b t n = when_no (ℕ_discrete r q) (length t) (age r t) n
 
-  age_lt : (r : ℕ) (t : Table P) (b : Best P) → look r t ≡ some b → age r t < length t
+  age_lt : (r : ℕ) (t : Table P) (b : Best P) → look r t ≡ Some b → age r t < length t
   unfolding age look
   age_lt r [] b e = absurd (none≢some e)
   age_lt r (x ∷ t) b e = go (ℕ_discrete r x.0) e (age_lt r t b)
     where
-      go : (d : Dec (r ≡ x.0)) → when d (some x.1) (look r t) ≡ some b → (look r t ≡ some b → age r t < length t) → when d (length t) (age r t) < suc (length t)
+      go : (d : Dec (r ≡ x.0)) → when d (Some x.1) (look r t) ≡ Some b → (look r t ≡ Some b → age r t < length t) → when d (length t) (age r t) < suc (length t)
       go (yes q) k ih = omega arith
       go (no n) k ih = let h = ih k in omega arith
 
@@ -47,7 +46,7 @@ module _ {P : Type 0} (R : Rule P) where
   Sooner a m b n = (¬ R.Le b.price a.price) ⊎ (R.Le a.price b.price × (m < n))
 
   abbrev pub SoonerIn : Table P → ℕ → ℕ → Type 0
-  SoonerIn t q r = (a : Best P) × (b : Best P) × (look q t ≡ some a) × (look r t ≡ some b) × Sooner a (age q t) b (age r t)
+  SoonerIn t q r = (a : Best P) × (b : Best P) × (look q t ≡ Some a) × (look r t ≡ Some b) × Sooner a (age q t) b (age r t)
 
   sooner_trans : (a b c : Best P) (k m n : ℕ) → Sooner a k b m → Sooner b m c n → Sooner a k c n
   sooner_trans a b c k m n (inl h) (inl j) = inl (λ e. h (R.trans b.price c.price a.price (R.total c.price b.price j) e))
@@ -69,7 +68,7 @@ module _ {P : Type 0} (R : Rule P) where
 module _ {P : Type 0} (R : Rule P) (nodes : ℕ → List Term) where
   -- a chosen node is one of its class, and costs no more than it did when it was taken
   abbrev pub Backed : Table P → Type 0
-  Backed t = (r : ℕ) (b : Best P) → look r t ≡ some b → Mem b.node (nodes r) × ((ps : List P) × Each (AtMost R t) b.node.kids ps × (R.of b.node.op b.node.payload ps ≡ b.price))
+  Backed t = (r : ℕ) (b : Best P) → look r t ≡ Some b → Mem b.node (nodes r) × ((ps : List P) × Each (AtMost R t) b.node.kids ps × (R.of b.node.op b.node.payload ps ≡ b.price))
 
   pub exact : (t : Table P) (cs : List ℕ) (ps : List P) → Each (Priced t) cs ps → Each (AtMost R t) cs ps
   unfolding Each
@@ -79,7 +78,7 @@ module _ {P : Type 0} (R : Rule P) (nodes : ℕ → List Term) where
   exact t (c ∷ cs) (p ∷ ps) h = ((h.0.0, h.0.1, rw h.0.2 (same_le R p)), exact t cs ps h.1)
 
   -- what is proposed
-  pub offer : (t : Table P) (r : ℕ) (b : Best P) → best R t (nodes r) ≡ some b → Mem b.node (nodes r) × ((ps : List P) × Each (Priced t) b.node.kids ps × (R.of b.node.op b.node.payload ps ≡ b.price))
+  pub offer : (t : Table P) (r : ℕ) (b : Best P) → best R t (nodes r) ≡ Some b → Mem b.node (nodes r) × ((ps : List P) × Each (Priced t) b.node.kids ps × (R.of b.node.op b.node.payload ps ≡ b.price))
   offer t r b e =
       let h = best_from R t (nodes r) b e in
       let k = priced_from R b.node (prices t b.node.kids) b.price h.1 in
@@ -104,15 +103,15 @@ module _ {P : Type 0} (R : Rule P) (nodes : ℕ → List Term) where
 
   -- a chosen node's children go before it
   abbrev pub Ranked : Table P → Type 0
-  Ranked t = (r : ℕ) (b : Best P) (c : ℕ) → look r t ≡ some b → Mem c b.node.kids → SoonerIn R t c r
+  Ranked t = (r : ℕ) (b : Best P) (c : ℕ) → look r t ≡ Some b → Mem c b.node.kids → SoonerIn R t c r
 
-  pub priced_kid : (t : Table P) (c : ℕ) (cs : List ℕ) (ps : List P) → Each (Priced t) cs ps → Mem c cs → (b : Best P) × (look c t ≡ some b) × Mem b.price ps
+  pub priced_kid : (t : Table P) (c : ℕ) (cs : List ℕ) (ps : List P) → Each (Priced t) cs ps → Mem c cs → (b : Best P) × (look c t ≡ Some b) × Mem b.price ps
   unfolding Each
   priced_kid t c [] ps h m = absurd (mem-nil m)
   priced_kid t c (d ∷ cs) [] h m = absurd h
   priced_kid t c (d ∷ cs) (p ∷ ps) h m = go (mem-cases m) (priced_kid t c cs ps h.1)
     where
-      go : (c ≡ d) ⊎ Mem c cs → (Mem c cs → (b : Best P) × (look c t ≡ some b) × Mem b.price ps) → (b : Best P) × (look c t ≡ some b) × Mem b.price (p ∷ ps)
+      go : (c ≡ d) ⊎ Mem c cs → (Mem c cs → (b : Best P) × (look c t ≡ Some b) × Mem b.price ps) → (b : Best P) × (look c t ≡ Some b) × Mem b.price (p ∷ ps)
       go (inl e) ih = (h.0.0, rw e h.0.1, here h.0.2)
       go (inr k) ih = let b = ih k in (b.0, b.1, there b.2)
 
@@ -130,20 +129,20 @@ module _ {P : Type 0} (R : Rule P) (nodes : ℕ → List Term) where
           (p.0, b, look_past d r b t n ∙ p.1, look_here r b t, inr (le, lt))
 
       -- an older one, whose child c has got the new entry
-      cheaper : (z : Best P) → SoonerIn R t r q → look q t ≡ some z → ¬ R.Le z.price b.price
+      cheaper : (z : Best P) → SoonerIn R t r q → look q t ≡ Some z → ¬ R.Le z.price b.price
       cheaper z k i le = past (rw (some_inj (sym k.3 ∙ i)) at k.4)
         where
           past : Sooner R k.0 (age r t) z (age q t) → ⊥
           past (inl n) = n (R.trans z.price b.price k.0.price le (R.total k.0.price b.price (low k.0 k.2)))
           past (inr j) = low k.0 k.2 (R.trans k.0.price z.price b.price j.0 le)
 
-      old : q ≢ r → look q t ≡ some a → Dec (c ≡ r) → SoonerIn R t c q → SoonerIn R ((r, b) ∷ t) c q
+      old : q ≢ r → look q t ≡ Some a → Dec (c ≡ r) → SoonerIn R t c q → SoonerIn R ((r, b) ∷ t) c q
       old n i (yes j) k = rw j (b, a, look_here r b t, look_past q r b t n ∙ i, inl (cheaper a (rw j at k) i))
       old n i (no l) k = (k.0, k.1, look_past c r b t l ∙ k.2, look_past q r b t n ∙ k.3, rw (age_past c r b t l, age_past q r b t n) k.4)
 
       go : Dec (q ≡ r) → SoonerIn R ((r, b) ∷ t) c q
       go (yes i) = let z : b ≡ a = some_inj (sym (look_here r b t) ∙ rw i at h) in rw i (new c (rw z m))
-      go (no n) = let i : look q t ≡ some a = sym (look_past q r b t n) ∙ h in old n i (ℕ_discrete c r) (K q a c i m)
+      go (no n) = let i : look q t ≡ Some a = sym (look_past q r b t n) ∙ h in old n i (ℕ_discrete c r) (K q a c i m)
 
   pub ranked : (rs : List ℕ) (n : ℕ) → Ranked (after R nodes rs n [])
   ranked rs n = after_keeps R nodes Ranked ranked_keeps rs n [] (λ r b c e m. absurd (look_nil r b e))
@@ -151,9 +150,9 @@ module _ {P : Type 0} (R : Rule P) (nodes : ℕ → List Term) where
   -- from r, by chosen nodes, every way down has at most n classes
   unfoldable pub Deep : Table P → ℕ → ℕ → Type 0
   Deep t zero r = ⊥
-  Deep t (suc n) r = (b : Best P) × (look r t ≡ some b) × ((c : ℕ) → Mem c b.node.kids → Deep t n c)
+  Deep t (suc n) r = (b : Best P) × (look r t ≡ Some b) × ((c : ℕ) → Mem c b.node.kids → Deep t n c)
 
-  deep : (t : Table P) → Ranked t → (n : ℕ) (W : List ℕ) → length W ≤ n → (r : ℕ) → Mem r W → ((q : ℕ) → SoonerIn R t q r → Mem q W) → (b : Best P) → look r t ≡ some b → Deep t n r
+  deep : (t : Table P) → Ranked t → (n : ℕ) (W : List ℕ) → length W ≤ n → (r : ℕ) → Mem r W → ((q : ℕ) → SoonerIn R t q r → Mem q W) → (b : Best P) → look r t ≡ Some b → Deep t n r
   unfolding Deep
   deep t K zero [] le r m low b e = absurd (mem-nil m)
   deep t K zero (w ∷ W) le r m low b e = absurd (omega arith)
@@ -169,8 +168,8 @@ module _ {P : Type 0} (R : Rule P) (nodes : ℕ → List Term) where
 
   module _ (rs : List ℕ) (listed : (r : ℕ) (x : Term) → Mem x (nodes r) → Mem r rs) (t : Table P) (B : Backed t) (K : Ranked t) where
     -- 3. no circle
-    pub no_circle : (r : ℕ) (b : Best P) → look r t ≡ some b → Deep t (length rs) r
+    pub no_circle : (r : ℕ) (b : Best P) → look r t ≡ Some b → Deep t (length rs) r
     no_circle r b e = deep t K (length rs) rs (omega arith) r (in_list r b e) (λ q h. in_list q h.0 h.2) b e
       where
-        in_list : (q : ℕ) (a : Best P) → look q t ≡ some a → Mem q rs
+        in_list : (q : ℕ) (a : Best P) → look q t ≡ Some a → Mem q rs
         in_list q a k = listed q a.node (B q a k).0

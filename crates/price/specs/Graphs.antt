@@ -1,8 +1,7 @@
 -- The price of a class of a graph that calls make: the passes end, each class then has the least price over its finite forms, and the listing shows a form at that price.
 -- Assumes nothing.
-use Rattle.std.specs.Prelude.{List, [], ◌∷◌, map, ◌⊎◌, ◌≡◌, refl, ◌<◌, ◌≤◌, suc, zero, ℕ, length}
+use Rattle.std.specs.Prelude.{List, [], ◌∷◌, map, ◌⊎◌, ◌≡◌, refl, ◌<◌, ◌≤◌, suc, zero, ℕ, length, Some}
 use Rattle.std.proofs.Common.{inl, inr, subst, arith}
-use Rattle.std.proofs.Math.Option.{some}
 use Rattle.std.proofs.Math.Decide.{ℕ_discrete}
 use Rattle.lists.specs.Keeps.{length_filter, length_upto, upto}
 use Rattle.lists.specs.Members.{Mem, here, there}
@@ -41,7 +40,7 @@ pub record Lists {P : Type 0} (R : Rule P) (g : Graph) (t : Table P) (r : ℕ) (
 -- class r has a price: that of one of its forms, and none of its forms is cheaper
 pub record LeastPrice {P : Type 0} (R : Rule P) (g : Graph) (r : ℕ) : Type 0 where
   pub best : Best P
-  pub entry : look r (table R g) ≡ some best
+  pub entry : look r (table R g) ≡ Some best
   pub cheapest : Form
   pub in_class : FormOf g cheapest r
   pub at_price : cost R cheapest ≡ best.price
@@ -125,10 +124,10 @@ module _ {P : Type 0} (R : Rule P) {us : List (ℕ × ℕ)} {g : Graph} (M : Mad
         least = λ h m. low r a.0 a.1 h m;
       }
     where
-      at_most : (r : ℕ) (f : Form) → FormOf g f r → (b : Best P) × (look r (table R g) ≡ some b) × R.Le b.price (cost R f)
+      at_most : (r : ℕ) (f : Form) → FormOf g f r → (b : Best P) × (look r (table R g) ≡ Some b) × R.Le b.price (cost R f)
       at_most r f h = least R (class_nodes g) (class_roots g) in_roots r f (in_map f (NodeOf g) (λ q x. Mem x (class_nodes g q)) r (nodes_has g) h)
 
-      low : (r : ℕ) (b : Best P) → look r (table R g) ≡ some b → (f : Form) → FormOf g f r → R.Le b.price (cost R f)
+      low : (r : ℕ) (b : Best P) → look r (table R g) ≡ Some b → (f : Form) → FormOf g f r → R.Le b.price (cost R f)
       low r b e f h = let a = at_most r f h in let z : a.0 ≡ b = cc (a.1, e) in subst (λ (w : Best P). R.Le w.price (cost R f)) z a.2
 
   lists : (t : Table P) (r : ℕ) (p : P) → Shows R (class_nodes g) (class_roots g) in_roots t r p → Lists R g t r p
@@ -144,5 +143,5 @@ module _ {P : Type 0} (R : Rule P) {us : List (ℕ × ℕ)} {g : Graph} (M : Mad
   }
 
   -- 3. the chosen nodes run in no circle: the listing shows a cheapest form
-  pub listed_form : (r : ℕ) (b : Best P) → look r (table R g) ≡ some b → Lists R g (table R g) r b.price
+  pub listed_form : (r : ℕ) (b : Best P) → look r (table R g) ≡ Some b → Lists R g (table R g) r b.price
   listed_form r b e = lists (table R g) r b.price (final_shows R (class_nodes g) (class_roots g) in_roots r b e)

@@ -1,9 +1,8 @@
 -- After as many passes as there are classes every class has the least price of its forms, and a further pass changes nothing.
 -- Assumes nothing.
 use mathlib.Core.List.{List, [], ◌∷◌}
-use Rattle.std.specs.Prelude.{◌⊎◌, ◌≡◌}
+use Rattle.std.specs.Prelude.{◌⊎◌, ◌≡◌, Option, None, Some}
 use Rattle.std.proofs.Common.{inl, inr, ◌∙◌, sym, arith}
-use Rattle.std.proofs.Math.Option.{Option, none, some}
 use Rattle.std.proofs.Math.Path.{ap, refl}
 use Prim.Native.Nat.{◌<◌, ◌≤◌, suc, zero, ℕ}
 use Rattle.std.proofs.Math.Decide.{ℕ_discrete}
@@ -88,7 +87,7 @@ module _ {P : Type 0} (R : Rule P) (nodes : ℕ → List Term) where
 
   -- every price is the price of a form
   abbrev pub Attained : Table P → Type 0
-  Attained t = (r : ℕ) (b : Best P) → look r t ≡ some b → (f : Form) × In Has f r × (cost R f ≡ b.price)
+  Attained t = (r : ℕ) (b : Best P) → look r t ≡ Some b → (f : Form) × In Has f r × (cost R f ≡ b.price)
 
   -- and no form is cheaper
   abbrev pub Least : Table P → Type 0
@@ -105,7 +104,7 @@ module _ {P : Type 0} (R : Rule P) (nodes : ℕ → List Term) where
       let e : cost R f.0 ≡ p = f.2 ∙ h.0.2 in
       (f.0 then k.0, (f.1, k.1), λ i. e i ∷ k.2 i)
 
-  pub proposed : (t : Table P) → Attained t → (r : ℕ) (b : Best P) → best R t (nodes r) ≡ some b → (f : Form) × In Has f r × (cost R f ≡ b.price)
+  pub proposed : (t : Table P) → Attained t → (r : ℕ) (b : Best P) → best R t (nodes r) ≡ Some b → (f : Form) × In Has f r × (cost R f ≡ b.price)
   unfolding In cost
   proposed t A r b e =
       let h = best_from R t (nodes r) b e in
@@ -164,8 +163,8 @@ module _ {P : Type 0} (R : Rule P) (nodes : ℕ → List Term) where
     turn_still r = go (best R (final R nodes rs) (nodes r)) refl
       where
         go : (o : Option (Best P)) → best R (final R nodes rs) (nodes r) ≡ o → accept R r (look r (final R nodes rs)) o (final R nodes rs) ≡ final R nodes rs
-        go none e = refl
-        go (some b) e =
+        go None e = refl
+        go (Some b) e =
             let f = proposed (final R nodes rs) (attained rs (length rs)) r b e in
             let a = least r f.0 f.1 in
             let le : R.Le a.0.price b.price = rw f.2 at a.2 in

@@ -1,8 +1,7 @@
 -- The listing of a cheapest form, as document 01 has it ("The price of a form"): children first, leftmost first, each class once, the asked class last;
 -- children are places in that list, counted in nodes from 0.
 -- Assumes nothing.
-use Rattle.std.specs.Prelude.{List, [], ◌++◌, ◌∷◌, ◌≡◌, suc, zero, ℕ, length}
-use Rattle.std.proofs.Math.Option.{Option, none, some}
+use Rattle.std.specs.Prelude.{List, [], ◌++◌, ◌∷◌, ◌≡◌, suc, zero, ℕ, length, Option, None, Some}
 use Rattle.std.proofs.Math.Decide.{ℕ_discrete}
 use Rattle.lists.specs.Tests.{when}
 use Rattle.language.specs.Term.{Term, over_kids, spell}
@@ -14,17 +13,17 @@ Listing = List (ℕ × Term)
 
 -- the place of class c
 unfoldable pub spot : ℕ → Listing → Option ℕ
-spot c [] = none
-spot c (e ∷ l) = when (ℕ_discrete c e.0) (some (length l)) (spot c l)
+spot c [] = None
+spot c (e ∷ l) = when (ℕ_discrete c e.0) (Some (length l)) (spot c l)
 
 -- the node at place p
 unfoldable pub entry : ℕ → Listing → Option Term
-entry p [] = none
-entry p (e ∷ l) = when (ℕ_discrete p (length l)) (some e.1) (entry p l)
+entry p [] = None
+entry p (e ∷ l) = when (ℕ_discrete p (length l)) (Some e.1) (entry p l)
 
 abbrev pub or_zero : Option ℕ → ℕ
-or_zero none = 0
-or_zero (some p) = p
+or_zero None = 0
+or_zero (Some p) = p
 
 -- a node with its children's places for its children
 abbrev pub spot_of : Listing → ℕ → ℕ
@@ -41,9 +40,9 @@ each next (c ∷ cs) l = each next cs (next c l)
 module _ {P : Type 0} where
   -- class r, if it is not listed yet: first the children of its chosen node, then that node
   unfoldable pub enter : ℕ → Option ℕ → Option (Best P) → (ℕ → Listing → Listing) → Listing → Listing
-  enter r (some p) o next l = l
-  enter r none none next l = l
-  enter r none (some b) next l = let m = each next b.node.kids l in (r, with_places m b.node) ∷ m
+  enter r (Some p) o next l = l
+  enter r None None next l = l
+  enter r None (Some b) next l = let m = each next b.node.kids l in (r, with_places m b.node) ∷ m
 
   -- to depth n: no way down is longer than there are classes (`no_circle`)
   unfoldable pub visit : Table P → ℕ → ℕ → Listing → Listing
@@ -64,9 +63,9 @@ form_words l = spell (in_order l)
 
 -- place p has the node x, whose children are places: so `In (StandsAt l) f p` says that the listing l has the form f at place p
 abbrev pub StandsAt : Listing → ℕ → Term → Type 0
-StandsAt l p x = entry p l ≡ some x
+StandsAt l p x = entry p l ≡ Some x
 
 -- each class once
 abbrev pub Once : Listing → Type 0
 Once [] = Unit {0}
-Once (e ∷ l) = (spot e.0 l ≡ none) × Once l
+Once (e ∷ l) = (spot e.0 l ≡ None) × Once l

@@ -1,8 +1,7 @@
 -- The passes of document 01 ("The price of a form"): they run over the classes in ascending root id until a pass changes nothing. In each, the first node
 -- in node order with the least price is proposed; it is taken if the class has none yet, or if its price is strictly less.
 -- Assumes nothing.
-use Rattle.std.specs.Prelude.{List, [], ◌∷◌, ◌≢◌, ◌≡◌, suc, zero, ℕ, length}
-use Rattle.std.proofs.Math.Option.{Option, none, some}
+use Rattle.std.specs.Prelude.{List, [], ◌∷◌, ◌≢◌, ◌≡◌, suc, zero, ℕ, length, Option, None, Some}
 use Rattle.std.proofs.Math.Decide.{ℕ_discrete}
 use Rattle.lists.specs.Tests.{when}
 use Rattle.language.specs.Term.{Term}
@@ -20,40 +19,40 @@ Table P = List (ℕ × Best P)
 module _ {P : Type 0} where
   -- the entry of class r
   unfoldable pub look : ℕ → Table P → Option (Best P)
-  look r [] = none
-  look r (e ∷ t) = when (ℕ_discrete r e.0) (some e.1) (look r t)
+  look r [] = None
+  look r (e ∷ t) = when (ℕ_discrete r e.0) (Some e.1) (look r t)
 
   unfoldable pub with_price : Option (Best P) → Option (List P) → Option (List P)
-  with_price none ps = none
-  with_price (some b) none = none
-  with_price (some b) (some ps) = some (b.price ∷ ps)
+  with_price None ps = None
+  with_price (Some b) None = None
+  with_price (Some b) (Some ps) = Some (b.price ∷ ps)
 
   -- the prices of the classes cs, if all have one
   unfoldable pub prices : Table P → List ℕ → Option (List P)
-  prices t [] = some []
+  prices t [] = Some []
   prices t (c ∷ cs) = with_price (look c t) (prices t cs)
 
 module _ {P : Type 0} (R : Rule P) where
   -- a node with an unpriced child has no price
   unfoldable pub priced : Term → Option (List P) → Option P
-  priced x none = none
-  priced x (some ps) = some (R.of x.op x.payload ps)
+  priced x None = None
+  priced x (Some ps) = Some (R.of x.op x.payload ps)
 
   unfoldable pub better : Term → Option P → Option (Best P) → Option (Best P)
-  better x none o = o
-  better x (some p) none = some (record { price = p; node = x })
-  better x (some p) (some b) = when (R.test p b.price) (some (record { price = p; node = x })) (some b)
+  better x None o = o
+  better x (Some p) None = Some (record { price = p; node = x })
+  better x (Some p) (Some b) = when (R.test p b.price) (Some (record { price = p; node = x })) (Some b)
 
   -- of the nodes xs, the first with the least price: x is better than what follows if its price is no greater
   unfoldable pub best : Table P → List Term → Option (Best P)
-  best t [] = none
+  best t [] = None
   best t (x ∷ xs) = better x (priced x (prices t x.kids)) (best t xs)
 
   -- class r has the entry `old`, and b is proposed: taken if there is none yet, or if b's price is strictly less
   unfoldable pub accept : ℕ → Option (Best P) → Option (Best P) → Table P → Table P
-  accept r old none t = t
-  accept r none (some b) t = (r, b) ∷ t
-  accept r (some a) (some b) t = when (R.test a.price b.price) t ((r, b) ∷ t)
+  accept r old None t = t
+  accept r None (Some b) t = (r, b) ∷ t
+  accept r (Some a) (Some b) t = when (R.test a.price b.price) t ((r, b) ∷ t)
 
 -- `nodes r` are the nodes of class r, in node order
 module _ {P : Type 0} (R : Rule P) (nodes : ℕ → List Term) where

@@ -1,10 +1,9 @@
 -- The listing has, at its last place, one form: it is of the asked class, and at its price.
 -- Assumes nothing.
 use mathlib.Core.List.{List, [], ◌++◌, ◌∷◌, map}
-use Rattle.std.specs.Prelude.{◌≢◌, ◌⊎◌, ◌≡◌, length}
+use Rattle.std.specs.Prelude.{◌≢◌, ◌⊎◌, ◌≡◌, length, Option, None, Some}
 use Rattle.std.proofs.Math.Logic.{inl}
 use Rattle.std.proofs.Common.{inr, ◌∙◌, subst, sym, arith, length-append}
-use Rattle.std.proofs.Math.Option.{Option, none, some}
 use Rattle.std.proofs.Math.Path.{ap, refl}
 use Prim.Native.Nat.{◌<◌, suc, zero, ℕ}
 use Rattle.std.proofs.Math.Decide.{ℕ_discrete}
@@ -24,32 +23,32 @@ use Rattle.price.specs.Rule.{Each, Rule, cost, costs}
 
 -- ---- places
 
-spot_nil : (c p : ℕ) → spot c [] ≡ some p → ⊥
+spot_nil : (c p : ℕ) → spot c [] ≡ Some p → ⊥
 unfolding spot
 spot_nil c p e = none≢some e
 
-pub spot_here : (c : ℕ) (x : Term) (l : Listing) → spot c ((c, x) ∷ l) ≡ some (length l)
+pub spot_here : (c : ℕ) (x : Term) (l : Listing) → spot c ((c, x) ∷ l) ≡ Some (length l)
 unfolding spot
-spot_here c x l = when_yes (ℕ_discrete c c) (some (length l)) (spot c l) refl
+spot_here c x l = when_yes (ℕ_discrete c c) (Some (length l)) (spot c l) refl
 
 pub spot_past : (c q : ℕ) (x : Term) (l : Listing) → c ≢ q → spot c ((q, x) ∷ l) ≡ spot c l
 unfolding spot
-spot_past c q x l n = when_no (ℕ_discrete c q) (some (length l)) (spot c l) n
+spot_past c q x l n = when_no (ℕ_discrete c q) (Some (length l)) (spot c l) n
 
-pub entry_here : (p c : ℕ) (x : Term) (l : Listing) → p ≡ length l → entry p ((c, x) ∷ l) ≡ some x
+pub entry_here : (p c : ℕ) (x : Term) (l : Listing) → p ≡ length l → entry p ((c, x) ∷ l) ≡ Some x
 unfolding entry
-entry_here p c x l e = when_yes (ℕ_discrete p (length l)) (some x) (entry p l) e
+entry_here p c x l e = when_yes (ℕ_discrete p (length l)) (Some x) (entry p l) e
 
 pub entry_past : (p c : ℕ) (x : Term) (l : Listing) → p ≢ length l → entry p ((c, x) ∷ l) ≡ entry p l
 unfolding entry
-entry_past p c x l n = when_no (ℕ_discrete p (length l)) (some x) (entry p l) n
+entry_past p c x l n = when_no (ℕ_discrete p (length l)) (Some x) (entry p l) n
 
-pub entry_lt : (p : ℕ) (l : Listing) (x : Term) → entry p l ≡ some x → p < length l
+pub entry_lt : (p : ℕ) (l : Listing) (x : Term) → entry p l ≡ Some x → p < length l
 unfolding entry
 entry_lt p [] x e = absurd (none≢some e)
 entry_lt p (y ∷ l) x e = go (ℕ_discrete p (length l)) e (entry_lt p l x)
   where
-    go : (d : Dec (p ≡ length l)) → when d (some y.1) (entry p l) ≡ some x → (entry p l ≡ some x → p < length l) → p < suc (length l)
+    go : (d : Dec (p ≡ length l)) → when d (Some y.1) (entry p l) ≡ Some x → (entry p l ≡ Some x → p < length l) → p < suc (length l)
     go (yes q) k ih = omega arith
     go (no n) k ih = let h = ih k in omega arith
 
@@ -59,19 +58,19 @@ unfolding in_order
 in_order_length [] = refl
 in_order_length (e ∷ l) = omega (arith, length-append (in_order l) (e.1 ∷ []), in_order_length l)
 
-pub in_order_at : (p : ℕ) (l : Listing) (x : Term) → entry p l ≡ some x → node (in_order l) p ≡ x
+pub in_order_at : (p : ℕ) (l : Listing) (x : Term) → entry p l ≡ Some x → node (in_order l) p ≡ x
 unfolding entry in_order
 in_order_at p [] x e = absurd (none≢some e)
 in_order_at p (y ∷ l) x e = go (ℕ_discrete p (length l)) e (in_order_at p l x)
   where
-    go : (d : Dec (p ≡ length l)) → when d (some y.1) (entry p l) ≡ some x → (entry p l ≡ some x → node (in_order l) p ≡ x) → node (in_order l ++ (y.1 ∷ [])) p ≡ x
+    go : (d : Dec (p ≡ length l)) → when d (Some y.1) (entry p l) ≡ Some x → (entry p l ≡ Some x → node (in_order l) p ≡ x) → node (in_order l ++ (y.1 ∷ [])) p ≡ x
     go (yes q) k ih = let i : p ≡ length (in_order l) = omega (arith, in_order_length l) in rw i (node_new (in_order l) y.1 ∙ some_inj k)
     go (no n) k ih = node_old (in_order l) y.1 p (omega (arith, entry_lt p l x k, in_order_length l)) ∙ ih k
 
 -- what is listed in l is listed in m, at the same place
 pub record Extends (l m : Listing) : Type 0 where
   pub stands : (p : ℕ) (x : Term) → StandsAt l p x → StandsAt m p x
-  pub spots : (c p : ℕ) → spot c l ≡ some p → spot c m ≡ some p
+  pub spots : (c p : ℕ) → spot c l ≡ Some p → spot c m ≡ Some p
 
 extends_self : (l : Listing) → Extends l l
 extends_self l = record { stands = λ p x h. h; spots = λ c p h. h }
@@ -79,13 +78,13 @@ extends_self l = record { stands = λ p x h. h; spots = λ c p h. h }
 extends_trans : {k l m : Listing} → Extends k l → Extends l m → Extends k m
 extends_trans a b = record { stands = λ p x h. b.stands p x (a.stands p x h); spots = λ c p h. b.spots c p (a.spots c p h) }
 
-pub extends_more : (r : ℕ) (x : Term) (l : Listing) → spot r l ≡ none → Extends l ((r, x) ∷ l)
+pub extends_more : (r : ℕ) (x : Term) (l : Listing) → spot r l ≡ None → Extends l ((r, x) ∷ l)
 extends_more r x l e = record {
   stands = λ p y h. entry_past p r x l (λ i. out p y h i) ∙ h;
   spots = λ c p h. spot_past c r x l (λ i. none≢some (sym e ∙ (sym (ap (λ q. spot q l) i) ∙ h))) ∙ h;
 }
   where
-    out : (p : ℕ) (y : Term) → entry p l ≡ some y → p ≡ length l → ⊥
+    out : (p : ℕ) (y : Term) → entry p l ≡ Some y → p ≡ length l → ⊥
     out p y h i = let k = entry_lt p l y h in omega arith
 
 -- ---- one form at a place
@@ -121,14 +120,14 @@ mutual
 module _ {P : Type 0} (R : Rule P) (nodes : ℕ → List Term) (t : Table P) (B : Backed R nodes t) (K : Ranked R nodes t) where
   -- class c stands at place p with a form of the class, no dearer than the class
   abbrev pub Shown : Listing → ℕ → ℕ → Type 0
-  Shown l c p = (f : Form) × (b : Best P) × (look c t ≡ some b) × In (Has R nodes) f c × In (StandsAt l) f p × R.Le (cost R f) b.price
+  Shown l c p = (f : Form) × (b : Best P) × (look c t ≡ Some b) × In (Has R nodes) f c × In (StandsAt l) f p × R.Le (cost R f) b.price
 
   pub record Fine (l : Listing) : Type 0 where
     pub once : Once l
-    pub shown : (c p : ℕ) → spot c l ≡ some p → Shown l c p
+    pub shown : (c p : ℕ) → spot c l ≡ Some p → Shown l c p
 
   abbrev Listed : Listing → ℕ → Type 0
-  Listed l c = (p : ℕ) × (spot c l ≡ some p)
+  Listed l c = (p : ℕ) × (spot c l ≡ Some p)
 
   -- q is c, or goes before it
   abbrev Under : ℕ → ℕ → Type 0
@@ -154,7 +153,7 @@ module _ {P : Type 0} (R : Rule P) (nodes : ℕ → List Term) (t : Table P) (B 
       (f.0 then k.0, (f.3, k.1), (rw i f.4, k.2), (R.trans (cost R f.0) f.1.price p f.5 le, k.3))
 
   -- one more class, whose children are listed
-  push_fine : (l : Listing) (r : ℕ) (b : Best P) → look r t ≡ some b → spot r l ≡ none → ((c : ℕ) → Mem c b.node.kids → Listed l c) → Fine l → Fine ((r, with_places l b.node) ∷ l)
+  push_fine : (l : Listing) (r : ℕ) (b : Best P) → look r t ≡ Some b → spot r l ≡ None → ((c : ℕ) → Mem c b.node.kids → Listed l c) → Fine l → Fine ((r, with_places l b.node) ∷ l)
   unfolding In cost
   push_fine l r b e n w F = record { once = (n, F.once); shown = λ c p h. go c p h (ℕ_discrete c r) }
     where
@@ -175,7 +174,7 @@ module _ {P : Type 0} (R : Rule P) (nodes : ℕ → List Term) (t : Table P) (B 
             le,
           )
 
-      go : (c p : ℕ) → spot c ((r, with_places l b.node) ∷ l) ≡ some p → Dec (c ≡ r) → Shown ((r, with_places l b.node) ∷ l) c p
+      go : (c p : ℕ) → spot c ((r, with_places l b.node) ∷ l) ≡ Some p → Dec (c ≡ r) → Shown ((r, with_places l b.node) ∷ l) c p
       go c p h (yes i) = let z : length l ≡ p = some_inj (sym (spot_here r (with_places l b.node) l) ∙ rw i at h) in rw (i, ← z) new
       go c p h (no k) = shown_more X c p (F.shown c p (sym (spot_past c r (with_places l b.node) l k) ∙ h))
 
@@ -184,13 +183,13 @@ module _ {P : Type 0} (R : Rule P) (nodes : ℕ → List Term) (t : Table P) (B 
     pub fine : Fine m
     pub extends : Extends l m
     pub listed : Listed m r
-    pub from : (q p : ℕ) → spot q m ≡ some p → Listed l q ⊎ Under q r
+    pub from : (q p : ℕ) → spot q m ≡ Some p → Listed l q ⊎ Under q r
 
   pub record AllVisited (l m : Listing) (cs : List ℕ) : Type 0 where
     pub fine : Fine m
     pub extends : Extends l m
     pub listed : (c : ℕ) → Mem c cs → Listed m c
-    pub from : (q p : ℕ) → spot q m ≡ some p → Listed l q ⊎ ((c : ℕ) × Mem c cs × Under q c)
+    pub from : (q p : ℕ) → spot q m ≡ Some p → Listed l q ⊎ ((c : ℕ) × Mem c cs × Under q c)
 
   pub each_visited : (next : ℕ → Listing → Listing) (cs : List ℕ) (l : Listing) → ((c : ℕ) → Mem c cs → (k : Listing) → Fine k → Visited k (next c k) c) → Fine l → AllVisited l (each next cs l) cs
   unfolding each
@@ -212,7 +211,7 @@ module _ {P : Type 0} (R : Rule P) (nodes : ℕ → List Term) (t : Table P) (B 
           back q (inl h) = first q (A.from q h.0 h.1)
           back q (inr h) = inr (h.0, there h.1, h.2)
 
-  push_visited : (l m : Listing) (r : ℕ) (b : Best P) → look r t ≡ some b → spot r l ≡ none → AllVisited l m b.node.kids → Visited l ((r, with_places m b.node) ∷ m) r
+  push_visited : (l m : Listing) (r : ℕ) (b : Best P) → look r t ≡ Some b → spot r l ≡ None → AllVisited l m b.node.kids → Visited l ((r, with_places m b.node) ∷ m) r
   push_visited l m r b e n A = record {
     fine = push_fine m r b e none_yet A.listed A.fine;
     extends = extends_trans A.extends (extends_more r (with_places m b.node) m none_yet);
@@ -229,18 +228,18 @@ module _ {P : Type 0} (R : Rule P) (nodes : ℕ → List Term) (t : Table P) (B 
       never (inl h) = none≢some (sym n ∙ h.1)
       never (inr h) = sooner_in_self R t r (below r h.0 h.1 h.2)
 
-      is_none : (o : Option ℕ) → spot r m ≡ o → o ≡ none
-      is_none none h = refl
-      is_none (some p) h = absurd (never (A.from r p h))
+      is_none : (o : Option ℕ) → spot r m ≡ o → o ≡ None
+      is_none None h = refl
+      is_none (Some p) h = absurd (never (A.from r p h))
 
-      none_yet : spot r m ≡ none
+      none_yet : spot r m ≡ None
       none_yet = is_none (spot r m) refl
 
       old : (q : ℕ) → Listed l q ⊎ ((c : ℕ) × Mem c b.node.kids × Under q c) → Listed l q ⊎ Under q r
       old q (inl h) = inl h
       old q (inr h) = inr (inr (below q h.0 h.1 h.2))
 
-      go : (q p : ℕ) → spot q ((r, with_places m b.node) ∷ m) ≡ some p → Dec (q ≡ r) → Listed l q ⊎ Under q r
+      go : (q p : ℕ) → spot q ((r, with_places m b.node) ∷ m) ≡ Some p → Dec (q ≡ r) → Listed l q ⊎ Under q r
       go q p h (yes i) = inr (inl i)
       go q p h (no k) = old q (A.from q p (sym (spot_past q r (with_places m b.node) m k) ∙ h))
 
@@ -249,13 +248,13 @@ module _ {P : Type 0} (R : Rule P) (nodes : ℕ → List Term) (t : Table P) (B 
   visited zero r l D F = absurd D
   visited (suc n) r l D F = rw D.1 (go (spot r l) refl (λ c m k G. visited n c k (D.2 c m) G))
     where
-      go : (o : Option ℕ) → spot r l ≡ o → ((c : ℕ) → Mem c D.0.node.kids → (k : Listing) → Fine k → Visited k (visit t n c k) c) → Visited l (enter r o (some D.0) (visit t n) l) r
-      go (some p) e ih = record { fine = F; extends = extends_self l; listed = (p, e); from = λ q s h. inl (s, h) }
-      go none e ih = push_visited l (each (visit t n) D.0.node.kids l) r D.0 D.1 e (each_visited (visit t n) D.0.node.kids l ih F)
+      go : (o : Option ℕ) → spot r l ≡ o → ((c : ℕ) → Mem c D.0.node.kids → (k : Listing) → Fine k → Visited k (visit t n c k) c) → Visited l (enter r o (Some D.0) (visit t n) l) r
+      go (Some p) e ih = record { fine = F; extends = extends_self l; listed = (p, e); from = λ q s h. inl (s, h) }
+      go None e ih = push_visited l (each (visit t n) D.0.node.kids l) r D.0 D.1 e (each_visited (visit t n) D.0.node.kids l ih F)
 
 module _ {P : Type 0} (R : Rule P) (nodes : ℕ → List Term) (t : Table P) where
   -- the asked class stands last
-  last : (n r : ℕ) → Deep R nodes t n r → (p : ℕ) × (spot r (visit t n r []) ≡ some p) × (suc p ≡ length (visit t n r []))
+  last : (n r : ℕ) → Deep R nodes t n r → (p : ℕ) × (spot r (visit t n r []) ≡ Some p) × (suc p ≡ length (visit t n r []))
   unfolding visit enter spot Deep
   last zero r D = absurd D
   last (suc n) r D = rw D.1 (length (each (visit t n) D.0.node.kids []), spot_here r (with_places (each (visit t n) D.0.node.kids []) D.0.node) (each (visit t n) D.0.node.kids []), refl)
@@ -266,7 +265,7 @@ module _ {P : Type 0} (R : Rule P) (nodes : ℕ → List Term) (rs : List ℕ) (
   Shows t r p = (f : Form) × (m : ℕ) × (suc m ≡ length (cheapest t rs r)) × In (StandsAt (cheapest t rs r)) f m × In (Has R nodes) f r × R.Le (cost R f) p × R.Le p (cost R f) × Once (cheapest t rs r)
 
   -- 3. so it is by every table whose choices are backed and ranked, and whose prices are least
-  pub shows : (t : Table P) → Backed R nodes t → Ranked R nodes t → Least R nodes t → (r : ℕ) (b : Best P) → look r t ≡ some b → Shows t r b.price
+  pub shows : (t : Table P) → Backed R nodes t → Ranked R nodes t → Least R nodes t → (r : ℕ) (b : Best P) → look r t ≡ Some b → Shows t r b.price
   shows t B K L r b e =
       let D = no_circle R nodes rs listed t B K r b e in
       let A = visited R nodes t B K (length rs) r [] D (record { once = tt; shown = λ c p h. absurd (spot_nil c p h) }) in
@@ -280,5 +279,5 @@ module _ {P : Type 0} (R : Rule P) (nodes : ℕ → List Term) (rs : List ℕ) (
       (w.0, s.0, s.2, w.4, w.3, le, ge, A.fine.once)
 
   -- by the table that the passes leave
-  pub final_shows : (r : ℕ) (b : Best P) → look r (final R nodes rs) ≡ some b → Shows (final R nodes rs) r b.price
+  pub final_shows : (r : ℕ) (b : Best P) → look r (final R nodes rs) ≡ Some b → Shows (final R nodes rs) r b.price
   final_shows r b e = shows (final R nodes rs) (backed R nodes rs (length rs)) (ranked R nodes rs (length rs)) (least R nodes rs listed) r b e

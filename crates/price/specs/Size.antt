@@ -1,8 +1,7 @@
 -- AstSize as document 01 has it ("The price of a form"): 1 plus the children's sizes, added left to right, saturating at 2^64 - 1.
 -- `LeastSize` is demand 2's sentence on sizes, that the size given for a class is the least AstSize of any finite form in it, capped; `size_least` of proofs, Size, proves it.
 -- Assumes nothing.
-use Rattle.std.specs.Prelude.{◌≡◌, ◌+◌, ◌≤◌, min, ℕ}
-use Rattle.std.proofs.Math.Option.{some}
+use Rattle.std.specs.Prelude.{◌≡◌, ◌+◌, ◌≤◌, min, ℕ, Some}
 use Rattle.std.proofs.Math.Decide.{dec_le}
 use Rattle.std.proofs.Common.{arith}
 use Rattle.steps.specs.Graph.{Graph}
@@ -64,5 +63,5 @@ pub record LeastSize (g : Graph) (r : ℕ) : Type 0 where
   pub in_class : FormOf g smallest r
   pub least : (f : Form) → FormOf g f r → ast_size smallest ≤ ast_size f
   pub best : Best ℕ
-  pub entry : look r (table AstSize g) ≡ some best
+  pub entry : look r (table AstSize g) ≡ Some best
   pub is : best.price ≡ min (ast_size smallest) cap

@@ -1,9 +1,10 @@
 -- The best node of a class by the prices in the scratch part: `choose`, `better` and `class_best` promise what `better` and `best` of Pass (price) say. The nodes of
 -- a class are walked from the last back, so a node that is met is better than what was met before it if its price is no greater.
 -- Assumes nothing.
+use Rattle.std.specs.Prelude.{None, Ok, Result, Some, ◌≢◌, ◌≡◌, length, Option}
+use Rattle.broken.specs.declared.Broken.{Broken}
+use Rattle.broken.specs.Words.{broken}
 use mathlib.Core.List.{[], ◌∷◌}
-use Rattle.std.specs.Prelude.{◌≢◌, ◌≡◌, length}
-use Rattle.std.proofs.Math.Option.{Option, none, some}
 use Rattle.std.proofs.Common.{◌∙◌, subst, sym}
 use Rattle.std.proofs.Math.Path.{refl}
 use Prim.Native.Nat.{◌+◌, ◌-◌, ◌<◌, ◌^◌, ◌≤◌, min, suc, ℕ}
@@ -16,25 +17,16 @@ use Rattle.language.specs.Struct.{node_of}
 use Rattle.language.specs.Term.{Term}
 use Rattle.steps.specs.Classes.{class_nodes}
 use Rattle.steps.specs.Graph.{Graph, ids, key_of}
-use Rattle.egraph.specs.ClassReads.{ClassNodes, Classed, Known, Previous, RootNode, Stands, classed_kids, classed_node, root_node_not, stands_few, stands_known, stands_node}
+use Rattle.egraph.specs.ClassReads.{ClassNodes, Classed, Known, Previous, RootNode, Stands, classed_kids, classed_node, stands_few, stands_known, stands_node}
 use Rattle.egraph.specs.declared.Cursor.{Cursor}
-use Rattle.egraph.specs.declared.NodeAnswer.{NodeAnswer}
-use Rattle.egraph.specs.declared.NodeOut.{NodeOut}
-use Rattle.egraph.specs.declared.NodeOut.TheVariants.{NodeNot}
-use Rattle.egraph.specs.declared.NodesRead.{NodesRead}
-use Rattle.egraph.specs.declared.NodesRead.TheVariants.{NodesAt, NodesBroken}
-use Rattle.egraph.specs.declared.Refusal.{Refusal}
 use Rattle.layout.specs.View.{View}
 use Rattle.layout.specs.declared.Head.{Head}
 use Rattle.price.specs.Pass.{Best, Table, best, better, priced, prices}
 use Rattle.price.specs.Size.{AstSize, cap}
 use Rattle.pricing.specs.Entries.{As, Names, Prices}
-use Rattle.pricing.specs.Node.{CostsNode, told}
-use Rattle.pricing.specs.declared.Chosen.{Chosen}
-use Rattle.pricing.specs.declared.Chosen.TheVariants.{ChosenBroken, ChosenIs}
+use Rattle.language.specs.declared.Node.{Node}
+use Rattle.pricing.specs.Node.{CostsNode}
 use Rattle.pricing.specs.declared.Entry.{Entry}
-use Rattle.pricing.specs.declared.NodeCost.{NodeCost}
-use Rattle.pricing.specs.declared.NodeCost.TheVariants.{NodeCostBroken, NodeCostIs, NodeCostNone}
 
 -- an entry says what an option says
 abbrev pub Means : Graph → Entry → Option (Best ℕ) → Type 0
@@ -44,7 +36,7 @@ Means g e o = As g e.mark e.price o
 
 pub record Chooses (b : Entry) (price id : ℕ) (r : Entry) : Type 0 where
   pub low : (k : ℕ) → b.mark ≤ k → id < k → r.mark ≤ k
-  pub law : (g : Graph) (o : Option (Best ℕ)) → id < ids g → Means g b o → Means g r (better AstSize (key_of g id) (some price) o)
+  pub law : (g : Graph) (o : Option (Best ℕ)) → id < ids g → Means g b o → Means g r (better AstSize (key_of g id) (Some price) o)
 
 -- prices of 64 bits are below the cap
 pub no_more : (p q : ℕ) → p < 2 ^ 64 → q < 2 ^ 64 → p ≤ q → min p cap ≤ min q cap
@@ -63,91 +55,92 @@ module _ (b : Entry) (price id : ℕ) (small : price < 2 ^ 64) where
   unfolding better
   choose_first z = record { low = λ k l m. omega arith; law = go }
     where
-      go : (g : Graph) (o : Option (Best ℕ)) → id < ids g → Means g b o → As g (id + 1) price (better AstSize (key_of g id) (some price) o)
-      go g none l M = names g l
-      go g (some a) l M = absurd (omega (arith, M.marked))
+      go : (g : Graph) (o : Option (Best ℕ)) → id < ids g → Means g b o → As g (id + 1) price (better AstSize (key_of g id) (Some price) o)
+      go g None l M = names g l
+      go g (Some a) l M = absurd (omega (arith, M.marked))
 
   pub choose_new : b.mark ≢ 0 → price ≤ b.price → Chooses b price id (record { mark = id + 1; price = price })
   unfolding better
   choose_new z h = record { low = λ k l m. omega arith; law = go }
     where
-      go : (g : Graph) (o : Option (Best ℕ)) → id < ids g → Means g b o → As g (id + 1) price (better AstSize (key_of g id) (some price) o)
-      go g none l M = absurd (z M)
-      go g (some a) l M =
+      go : (g : Graph) (o : Option (Best ℕ)) → id < ids g → Means g b o → As g (id + 1) price (better AstSize (key_of g id) (Some price) o)
+      go g None l M = absurd (z M)
+      go g (Some a) l M =
           let q : min price cap ≤ min a.price cap = no_more price a.price small (omega (arith, M.small, M.price_is)) (omega (arith, M.price_is)) in
-          rw (when_yes (dec_le (min price cap) (min a.price cap)) (some (record { price = price; node = key_of g id })) (some a) q) (names g l)
+          rw (when_yes (dec_le (min price cap) (min a.price cap)) (Some (record { price = price; node = key_of g id })) (Some a) q) (names g l)
 
   pub choose_old : b.mark ≢ 0 → b.price < price → Chooses b price id b
   unfolding better
   choose_old z h = record { low = λ k l m. l; law = go }
     where
-      go : (g : Graph) (o : Option (Best ℕ)) → id < ids g → Means g b o → Means g b (better AstSize (key_of g id) (some price) o)
-      go g none l M = absurd (z M)
-      go g (some a) l M =
+      go : (g : Graph) (o : Option (Best ℕ)) → id < ids g → Means g b o → Means g b (better AstSize (key_of g id) (Some price) o)
+      go g None l M = absurd (z M)
+      go g (Some a) l M =
           let q : min price cap ≤ min a.price cap → ⊥ = more price a.price small (omega (arith, M.small, M.price_is)) (omega (arith, M.price_is)) in
-          rw (when_no (dec_le (min price cap) (min a.price cap)) (some (record { price = price; node = key_of g id })) (some a) q) M
+          rw (when_no (dec_le (min price cap) (min a.price cap)) (Some (record { price = price; node = key_of g id })) (Some a) q) M
 
 -- the node x of a class, where o is the best behind it
 abbrev pub better_of : Table ℕ → Term → Option (Best ℕ) → Option (Best ℕ)
 better_of t x o = better AstSize x (priced AstSize x (prices t x.kids)) o
 
-pub record Betters (h : Head) (id : ℕ) (b : Entry) (v : View) (r : Chosen) : Type 0 where
-  pub low : (e : Entry) → r ≡ ChosenIs e → e.mark ≤ h.n
+pub record Betters (h : Head) (id : ℕ) (b : Entry) (v : View) (r : Result Entry Broken) : Type 0 where
+  pub low : (e : Entry) → r ≡ Ok e → e.mark ≤ h.n
   pub law : (g : Graph) (t : Table ℕ) (o : Option (Best ℕ)) → Classed h v g → Prices g h.n v.scratch t → id < ids g → Means g b o
-      → (e : Entry) × (r ≡ ChosenIs e) × Means g e (better_of t (key_of g id) o)
+      → (e : Entry) × (r ≡ Ok e) × Means g e (better_of t (key_of g id) o)
 
-broken_is : {A : Type 0} (e : Entry) → ChosenBroken ≡ ChosenIs e → A
+broken_is : {A : Type 0} (e : Entry) → broken ≡ Ok e → A
 broken_is e q = zero_one cc
 
-module _ (h : Head) (id : ℕ) (b : Entry) (v : View) (f : NodeAnswer) (F : RootNode h v id f) where
-  pub better_unread : (o : NodeOut) (k : Refusal) → o ≡ f.out → o ≡ NodeNot k → Betters h id b v ChosenBroken
-  better_unread o k w q = record { low = λ e p. broken_is e p; law = λ g t m C P lt M. absurd (root_node_not F o k w q (classed_node C id lt).0) }
+module _ (h : Head) (id : ℕ) (b : Entry) (v : View) (f : Result Node Broken) (F : RootNode h v id f) where
+  pub better_unread : f ≡ broken → Betters h id b v broken
+  better_unread q = record { low = λ e p. broken_is e p; law = λ g t m C P lt M. absurd (F.lost q (classed_node C id lt).0) }
 
-  module _ (c : NodeCost) (N : CostsNode h.n h.ids v.scratch (node_of f.node) c) where
+  module _ (x : Node) (is : f ≡ Ok x) (c : Result (Option ℕ) Broken) (N : CostsNode h.n h.ids v.scratch (node_of x) c) where
     -- the price of the node, as the table gives it
     costs : (g : Graph) (t : Table ℕ) → Classed h v g → Prices g h.n v.scratch t → id < ids g
-        → c ≡ told (priced AstSize (key_of g id) (prices t (key_of g id).kids))
+        → c ≡ Ok (priced AstSize (key_of g id) (prices t (key_of g id).kids))
     costs g t C P lt =
-        let e = (F.sound g C lt).1 in
-        subst (λ (x : Term). c ≡ told (priced AstSize x (prices t x.kids))) e (N.law g t P (rw e (classed_kids C id lt)))
+        let q = F.sound g C lt in
+        let same : q.0 ≡ x = let s = q.1 in cc in
+        let e : node_of x ≡ key_of g id = rw (← same) q.2 in
+        subst (λ (y : Term). c ≡ Ok (priced AstSize y (prices t y.kids))) e (N.law g t P (rw e (classed_kids C id lt)))
 
-    pub better_broken : c ≡ NodeCostBroken → Betters h id b v ChosenBroken
+    pub better_broken : c ≡ broken → Betters h id b v broken
     better_broken q = record {
       low = λ e p. broken_is e p;
-      law = λ g t o C P lt M. absurd (apart (priced AstSize (key_of g id) (prices t (key_of g id).kids)) (sym q ∙ costs g t C P lt));
+      law = λ g t o C P lt M. absurd (apart (sym q ∙ costs g t C P lt));
     }
       where
-        apart : (o : Option ℕ) → NodeCostBroken ≡ told o → ⊥
-        apart none e = zero_one cc
-        apart (some p) e = zero_one cc
+        apart : {o : Option ℕ} → broken ≡ Ok o → ⊥
+        apart e = zero_one cc
 
-    pub better_none : b.mark ≤ h.n → c ≡ NodeCostNone → Betters h id b v (ChosenIs b)
+    pub better_none : b.mark ≤ h.n → c ≡ Ok None → Betters h id b v (Ok b)
     unfolding better
     better_none lo q = record {
       low = λ e p. let z : b ≡ e = cc in rw (← z) lo;
       law = λ g t o C P lt M. (b, refl, go g (key_of g id) o (priced AstSize (key_of g id) (prices t (key_of g id).kids)) (sym q ∙ costs g t C P lt) M);
     }
       where
-        go : (g : Graph) (x : Term) (o : Option (Best ℕ)) (p : Option ℕ) → NodeCostNone ≡ told p → Means g b o → Means g b (better AstSize x p o)
-        go g x o none e M = M
-        go g x o (some p) e M = zero_one cc
+        go : (g : Graph) (x : Term) (o : Option (Best ℕ)) (p : Option ℕ) → ◌≡◌ {A = Result (Option ℕ) Broken} (Ok None) (Ok p) → Means g b o → Means g b (better AstSize x p o)
+        go g x o None e M = M
+        go g x o (Some p) e M = zero_one cc
 
-    pub better_priced : (p : ℕ) (r : Entry) → id < h.n → b.mark ≤ h.n → c ≡ NodeCostIs p → Chooses b p id r → Betters h id b v (ChosenIs r)
+    pub better_priced : (p : ℕ) (r : Entry) → id < h.n → b.mark ≤ h.n → c ≡ Ok (Some p) → Chooses b p id r → Betters h id b v (Ok r)
     better_priced p r li lo q K = record {
       low = λ e w. let z : r ≡ e = cc in rw (← z) (K.low h.n lo li);
       law = λ g t o C P lt M. (r, refl, go g o lt (priced AstSize (key_of g id) (prices t (key_of g id).kids)) (sym q ∙ costs g t C P lt) M);
     }
       where
-        go : (g : Graph) (o : Option (Best ℕ)) → id < ids g → (m : Option ℕ) → NodeCostIs p ≡ told m → Means g b o → Means g r (better AstSize (key_of g id) m o)
-        go g o l none e M = zero_one cc
-        go g o l (some k) e M = let z : p ≡ k = cc in rw (← z) (K.law g o l M)
+        go : (g : Graph) (o : Option (Best ℕ)) → id < ids g → (m : Option ℕ) → ◌≡◌ {A = Result (Option ℕ) Broken} (Ok (Some p)) (Ok m) → Means g b o → Means g r (better AstSize (key_of g id) m o)
+        go g o l None e M = zero_one cc
+        go g o l (Some k) e M = let z : p ≡ k = cc in rw (← z) (K.law g o l M)
 
 -- ---- all nodes of a class
 
-pub record BestOf (h : Head) (a : ℕ) (v : View) (r : Chosen) : Type 0 where
-  pub low : (e : Entry) → r ≡ ChosenIs e → e.mark ≤ h.n
+pub record BestOf (h : Head) (a : ℕ) (v : View) (r : Result Entry Broken) : Type 0 where
+  pub low : (e : Entry) → r ≡ Ok e → e.mark ≤ h.n
   pub law : (g : Graph) (t : Table ℕ) → Classed h v g → Prices g h.n v.scratch t
-      → (e : Entry) × (r ≡ ChosenIs e) × Means g e (best AstSize t (class_nodes g a))
+      → (e : Entry) × (r ≡ Ok e) × Means g e (best AstSize t (class_nodes g a))
 
 -- on its way back from the cursor `from`: of the class that `from` was at the end of, the nodes from the place of `cur` on are behind, and b is the best of them
 pub record Walking (h : Head) (v : View) (from cur : Cursor) (b : Entry) : Type 0 where
@@ -162,10 +155,10 @@ module _ (h : Head) (v : View) (from : Cursor) where
   unfolding best
   walk_start k = record { low = omega arith; known = k; stands = λ a S. S; law = λ a S g t C P e. rw (e, drop-length (class_nodes g a)) refl }
 
-  module _ (cur : Cursor) (b : Entry) (W : Walking h v from cur b) (left : 0 < cur.left) (r : Chosen) (B : Betters h cur.id.0 b v r) where
+  module _ (cur : Cursor) (b : Entry) (W : Walking h v from cur b) (left : 0 < cur.left) (r : Result Entry Broken) (B : Betters h cur.id.0 b v r) where
     -- the node at the cursor is looked at
     looked : (a : ℕ) → Stands h v a from → (g : Graph) (t : Table ℕ) → Classed h v g → Prices g h.n v.scratch t → from.left ≡ length (class_nodes g a)
-        → (e : Entry) × (r ≡ ChosenIs e) × Means g e (best AstSize t (drop (cur.left - 1) (class_nodes g a)))
+        → (e : Entry) × (r ≡ Ok e) × Means g e (best AstSize t (drop (cur.left - 1) (class_nodes g a)))
     unfolding best
     looked a F g t C P l =
         let S = W.stands a F in
@@ -174,7 +167,7 @@ module _ (h : Head) (v : View) (from : Cursor) where
         drop-cons (class_nodes g a) (cur.left - 1) (record { op = 0; payload = 0; kids = [] }) (omega (arith, stands_few C a cur S)) ∙ rw (s, stands_node C a cur S (cur.left - 1) s) refl in
         rw d (B.law g t (best AstSize t (drop cur.left (class_nodes g a))) C P (stands_known C a cur S (cur.left - 1) s) (W.law a F g t C P l))
 
-    pub walk_more : (o : NodesRead) → Previous h v cur o → (e : Entry) (to : Cursor) → r ≡ ChosenIs e → o ≡ NodesAt to → Walking h v from to e
+    pub walk_more : (o : Result Cursor Broken) → Previous h v cur o → (e : Entry) (to : Cursor) → r ≡ Ok e → o ≡ Ok to → Walking h v from to e
     walk_more o O e to q p = record {
       low = B.low e q;
       known = O.known to p;
@@ -183,24 +176,24 @@ module _ (h : Head) (v : View) (from : Cursor) where
     }
 
 -- the walk that `class_nodes` starts
-module _ (h : Head) (a : ℕ) (v : View) (r : NodesRead) (N : ClassNodes h v a r) where
-  pub best_unread : r ≡ NodesBroken → BestOf h a v ChosenBroken
+module _ (h : Head) (a : ℕ) (v : View) (r : Result Cursor Broken) (N : ClassNodes h v a r) where
+  pub best_unread : r ≡ broken → BestOf h a v broken
   best_unread q = record { low = λ e p. broken_is e p; law = λ g t C P. absurd (N.sound q g C) }
 
-  module _ (from : Cursor) (is : r ≡ NodesAt from) (cur : Cursor) (b : Entry) (W : Walking h v from cur b) where
+  module _ (from : Cursor) (is : r ≡ Ok from) (cur : Cursor) (b : Entry) (W : Walking h v from cur b) where
     stood : Stands h v a from
     stood = N.stands from is
 
-    pub best_broken : 0 < cur.left → (o : Chosen) → Betters h cur.id.0 b v o → o ≡ ChosenBroken → BestOf h a v ChosenBroken
+    pub best_broken : 0 < cur.left → (o : Result Entry Broken) → Betters h cur.id.0 b v o → o ≡ broken → BestOf h a v broken
     best_broken l o B q = record {
       low = λ e p. broken_is e p;
       law = λ g t C P. let k = looked h v from cur b W l o B a stood g t C P (N.all from is g C) in absurd (broken_is k.0 (sym q ∙ k.1));
     }
 
-    pub best_lost : (o : NodesRead) → Previous h v cur o → o ≡ NodesBroken → BestOf h a v ChosenBroken
+    pub best_lost : (o : Result Cursor Broken) → Previous h v cur o → o ≡ broken → BestOf h a v broken
     best_lost o O q = record { low = λ e p. broken_is e p; law = λ g t C P. absurd (O.sound q a (W.stands a stood) g C) }
 
-    pub best_all : cur.left ≡ 0 → BestOf h a v (ChosenIs b)
+    pub best_all : cur.left ≡ 0 → BestOf h a v (Ok b)
     best_all z = record {
       low = λ e p. let q : b ≡ e = cc in rw (← q) W.low;
       law = λ g t C P. (b, refl, rw z at (W.law a stood g t C P (N.all from is g C)));

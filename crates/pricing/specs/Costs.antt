@@ -1,17 +1,18 @@
 -- The passes until one takes nothing: `find_costs` promises that the scratch part then holds the table in the end (`table AstSize g` of price), and that it never runs
 -- out of rounds on words that hold a clean graph.
 -- Assumes nothing.
-use Rattle.std.specs.Prelude.{true, List, [], ◌≢◌, ◌⊎◌, ◌≡◌, refl, ◌*◌, ◌+◌, ◌<◌, ◌≤◌, suc, ℕ, length}
+use Rattle.std.specs.Prelude.{Err, Ok, Result, is_err, true, List, [], ◌≢◌, ◌⊎◌, ◌≡◌, refl, ◌*◌, ◌+◌, ◌<◌, ◌≤◌, suc, ℕ, length}
+use Rattle.broken.specs.declared.Broken.{Broken}
+use Rattle.broken.specs.Words.{broken}
 use Rattle.std.proofs.Common.{inl, inr, ◌∙◌, ap, sym, arith}
 use Rattle.std.proofs.Math.Decide.{ℕ_discrete}
+use Rattle.lists.specs.Tests.{zero_one}
 use Rattle.lists.specs.Keeps.{length_filter, length_upto, upto}
 use Rattle.steps.specs.Classes.{class_nodes, class_roots, total_number_of_nodes}
 use Rattle.steps.specs.Graph.{Graph, ids, root}
 use Rattle.egraph.specs.Answers.{count_says, never, number_of}
 use Rattle.egraph.specs.ClassLists.{TotalSays, total_held}
 use Rattle.egraph.specs.ClassReads.{KidsKnown, classed, classed_ids, classed_lent, classed_listed, scratch_clear}
-use Rattle.egraph.specs.declared.CountAnswer.{CountAnswer}
-use Rattle.egraph.specs.declared.CountAnswer.TheVariants.{CountNot}
 use Rattle.egraph.specs.declared.Refusal.{Refusal}
 use Rattle.holds.specs.Holds.{Holds}
 use Rattle.layout.specs.Head.{HeadIs}
@@ -25,14 +26,10 @@ use Rattle.price.specs.Size.{AstSize}
 use Rattle.pricing.specs.Entries.{Prices, prices_none}
 use Rattle.pricing.specs.Pass.{Passes}
 use Rattle.pricing.specs.Turn.{Scratched, Took, scratched_then, taken_broken}
-use Rattle.pricing.specs.declared.Found.{Found}
-use Rattle.pricing.specs.declared.Found.TheVariants.{CostsBroken, CostsFound}
-use Rattle.pricing.specs.declared.Taken.{Taken}
-use Rattle.pricing.specs.declared.Taken.TheVariants.{TakenBroken, TakenIs}
 
-pub record FindsCosts (h : Head) (ws : List ℕ) (r : Found) (ws' : List ℕ) : Type 0 where
+pub record FindsCosts (h : Head) (ws : List ℕ) (r : Result Unit Broken) (ws' : List ℕ) : Type 0 where
   pub only : Scratched h.n h.m ws ws'
-  pub law : (g : Graph) → Holds ws g → g.clean ≡ true → KidsKnown g → (r ≡ CostsFound) × Prices g h.n (view h.n h.m ws').scratch (table AstSize g)
+  pub law : (g : Graph) → Holds ws g → g.clean ≡ true → KidsKnown g → (r ≡ Ok tt) × Prices g h.n (view h.n h.m ws').scratch (table AstSize g)
 
 -- the scratch words ss hold a table from which the passes still run `left` times, i of them being done
 pub record OnWay (g : Graph) (n i : ℕ) (ss : List ℕ) : Type 0 where
@@ -48,11 +45,12 @@ pub record Finding (h : Head) (i : ℕ) (ws ws' : List ℕ) : Type 0 where
 
 module _ (h : Head) (ws : List ℕ) (q : HeadIs (length ws) (hd ws) h) where
   -- the number of nodes is refused: no clean graph's words
-  pub costs_long : (r : CountAnswer) → TotalSays ws r → (k : Refusal) → r ≡ CountNot k → FindsCosts h ws CostsBroken ws
-  costs_long r T k e = record {
+  pub costs_long : (r : Result ℕ Refusal) → TotalSays ws r → is_err r ≡ true → FindsCosts h ws broken ws
+  costs_long (Err k) T e = record {
     only = lent_same ws (λ i l. refl);
-    law = λ g H c K. absurd (never (number_of k) (total_number_of_nodes g) (sym ((total_held ws g H r T).on c) ∙ ap count_says e));
+    law = λ g H c K. absurd (never (number_of k) (total_number_of_nodes g) (sym ((total_held ws g H (Err k) T).on c)));
   }
+  costs_long (Ok x) T e = zero_one cc
 
   pub finding_start : Finding h 0 ws ws
   finding_start = record {
@@ -71,20 +69,20 @@ module _ (h : Head) (ws : List ℕ) (q : HeadIs (length ws) (hd ws) h) where
         run = R;
       }
 
-  module _ (i : ℕ) (ws1 ws2 : List ℕ) (A : Finding h i ws ws1) (r : Taken) (B : Passes h ws1 r ws2) where
+  module _ (i : ℕ) (ws1 ws2 : List ℕ) (A : Finding h i ws ws1) (r : Result ℕ Broken) (B : Passes h ws1 r ws2) where
     -- the next pass, on the way to the table of g
     took : (g : Graph) → Holds ws g → g.clean ≡ true → KidsKnown g → (W : OnWay g h.n i (view h.n h.m ws1).scratch)
         → Took g h.n (view h.n h.m ws2).scratch W.now (pass AstSize (class_nodes g) (class_roots g) W.now) r
     took g H c K W = B.law g W.now (classed_lent A.only (classed ws h g q H c K)) W.prices
 
-    pub costs_broken : r ≡ TakenBroken → FindsCosts h ws CostsBroken ws2
+    pub costs_broken : r ≡ broken → FindsCosts h ws broken ws2
     costs_broken e = record {
       only = scratched_then A.only B.only;
       law = λ g H c K. let T = took g H c K (A.law g H c K) in taken_broken T.count (sym e ∙ T.is);
     }
 
     -- nothing taken: the table is as it was, and the passes end there
-    pub costs_done : (k : ℕ) → r ≡ TakenIs k → k ≡ 0 → FindsCosts h ws CostsFound ws2
+    pub costs_done : (k : ℕ) → r ≡ Ok k → k ≡ 0 → FindsCosts h ws (Ok tt) ws2
     costs_done k e z = record {
       only = scratched_then A.only B.only;
       law = λ g H c K. (refl, last g (A.law g H c K) (took g H c K (A.law g H c K)));
@@ -107,7 +105,7 @@ module _ (h : Head) (ws : List ℕ) (q : HeadIs (length ws) (hd ws) h) where
             let s = same g W.now (omega (arith, T.grown)) (pass_grows AstSize (class_nodes g) (class_roots g) W.now) in
             rw (ended g W.run s, ← s) T.prices
 
-    pub finding_more : (k : ℕ) → r ≡ TakenIs k → k ≢ 0 → Finding h (i + 1) ws ws2
+    pub finding_more : (k : ℕ) → r ≡ Ok k → k ≢ 0 → Finding h (i + 1) ws ws2
     finding_more k e n = record {
       only = scratched_then A.only B.only;
       law = λ g H c K. let W = A.law g H c K in next g W.now W.left W.bound W.run (took g H c K W);
@@ -132,7 +130,7 @@ module _ (h : Head) (ws : List ℕ) (q : HeadIs (length ws) (hd ws) h) where
             }
 
   -- no rounds left: not on words that hold a clean graph
-  pub costs_out : (i : ℕ) (ws' : List ℕ) → h.ids < i → Finding h i ws ws' → FindsCosts h ws CostsBroken ws'
+  pub costs_out : (i : ℕ) (ws' : List ℕ) → h.ids < i → Finding h i ws ws' → FindsCosts h ws broken ws'
   costs_out i ws' l A = record { only = A.only; law = λ g H c K. let W = A.law g H c K in absurd (some g W.run (omega (arith, W.bound, classed_ids (classed ws h g q H c K)))) }
     where
       some : (g : Graph) {n : ℕ} {t u : Table ℕ} → Run AstSize (class_nodes g) (class_roots g) n t u → n ≤ 0 → ⊥

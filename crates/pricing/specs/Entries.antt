@@ -1,9 +1,8 @@
 -- Prices in the scratch part: of each class its price, in two words, and its mark, which is 0 for none and else 1 and an id that has the node that earned the price.
 -- `Prices` says that the words are a table of prices, as the passes of document 01 make it (Pass of price): of each class they keep what was taken last.
 -- Assumes nothing.
-use Rattle.std.specs.Prelude.{List, [], ◌∷◌, ◌≢◌, ◌⊎◌, ◌≡◌, refl, ◌*◌, ◌+◌, ◌/◌, ◌%◌, ◌<◌, ◌^◌, suc, ℕ, length, replicate, set}
+use Rattle.std.specs.Prelude.{List, [], ◌∷◌, ◌≢◌, ◌⊎◌, ◌≡◌, refl, ◌*◌, ◌+◌, ◌/◌, ◌%◌, ◌<◌, ◌^◌, suc, ℕ, length, replicate, set, Option, None, Some}
 use Rattle.std.proofs.Common.{inl, inr, ◌∙◌, ap, arith}
-use Rattle.std.proofs.Math.Option.{Option, none, some}
 use Rattle.lists.specs.Reads.{at, get_or_copies}
 use Rattle.lists.specs.Stores.{puts, puts_hit, puts_miss}
 use Rattle.lists.specs.Tests.{eq_or}
@@ -30,8 +29,8 @@ pub record Names (g : Graph) (mark price : ℕ) (b : Best ℕ) : Type 0 where
   pub node_is : key_of g id ≡ b.node
 
 abbrev pub As : Graph → ℕ → ℕ → Option (Best ℕ) → Type 0
-As g mark price none = mark ≡ 0
-As g mark price (some b) = Names g mark price b
+As g mark price None = mark ≡ 0
+As g mark price (Some b) = Names g mark price b
 
 -- the scratch words ss hold the table t, for the classes below n
 pub record Prices (g : Graph) (n : ℕ) (ss : List ℕ) (t : Table ℕ) : Type 0 where

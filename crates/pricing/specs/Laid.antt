@@ -1,8 +1,7 @@
 -- How the listing of a cheapest form (Listing of price) stands in the scratch part, while it is made and when it is done: where each class is listed, and which class
 -- stands at each place. The prices and marks in front of it stay (Entries).
 -- Assumes nothing.
-use Rattle.std.specs.Prelude.{List, [], ◌∷◌, ◌≢◌, ◌≡◌, ◌*◌, ◌+◌, ◌<◌, ◌≤◌, suc, ℕ, length}
-use Rattle.std.proofs.Math.Option.{Option, none, some}
+use Rattle.std.specs.Prelude.{List, [], ◌∷◌, ◌≢◌, ◌≡◌, ◌*◌, ◌+◌, ◌<◌, ◌≤◌, suc, ℕ, length, Option, None, Some}
 use Rattle.std.proofs.Math.Decide.{ℕ_discrete}
 use Rattle.lists.specs.Reads.{at}
 use Rattle.lists.specs.Tests.{when, when_no, when_yes}
@@ -11,8 +10,8 @@ use Rattle.price.specs.Listing.{Listing, spot}
 
 -- 0 for a class that is not listed, else 1 and its place
 abbrev pub place_word : Option ℕ → ℕ
-place_word none = 0
-place_word (some p) = suc p
+place_word None = 0
+place_word (Some p) = suc p
 
 -- the class at place p
 unfoldable pub class_at : ℕ → Listing → ℕ

@@ -1,8 +1,9 @@
 -- The price of a node by the prices in the scratch part: 1 and the prices of its children's classes, added left to right, saturating; none if a child has none.
 -- `CostsNode` is what `node_total_cost` promises; `Adding` is what its loop has done after i children.
 -- Assumes nothing.
-use Rattle.std.specs.Prelude.{List, ◌≢◌, ◌≡◌, ◌+◌, ◌<◌, ◌≤◌, min, suc, ℕ, drop, length}
-use Rattle.std.proofs.Math.Option.{Option, none, some}
+use Rattle.std.specs.Prelude.{None, Ok, Result, Some, List, ◌≢◌, ◌≡◌, ◌+◌, ◌<◌, ◌≤◌, min, suc, ℕ, drop, length, Option}
+use Rattle.broken.specs.declared.Broken.{Broken}
+use Rattle.broken.specs.Words.{broken}
 use Rattle.std.proofs.Common.{◌∙◌, ap, add-one, arith}
 use Rattle.std.proofs.Math.Path.{refl, sym}
 use Rattle.std.proofs.Math.Seq.{drop-cons, drop-length}
@@ -15,22 +16,15 @@ use Rattle.price.specs.Pass.{Best, Table, look, priced, prices, with_price}
 use Rattle.price.specs.Size.{AstSize, Capped, cap}
 use Rattle.pricing.specs.Entries.{As, EntryAt, Prices, entry_as}
 use Rattle.pricing.specs.declared.Entry.{Entry}
-use Rattle.pricing.specs.declared.NodeCost.{NodeCost}
-use Rattle.pricing.specs.declared.NodeCost.TheVariants.{NodeCostBroken, NodeCostIs, NodeCostNone}
-
--- a price, or none
-abbrev pub told : Option ℕ → NodeCost
-told none = NodeCostNone
-told (some p) = NodeCostIs p
 
 -- what `node_total_cost` promises
-pub record CostsNode (n N : ℕ) (ss : List ℕ) (x : Term) (r : NodeCost) : Type 0 where
-  pub law : (g : Graph) (t : Table ℕ) → Prices g n ss t → KidsIn N x → r ≡ told (priced AstSize x (prices t x.kids))
+pub record CostsNode (n N : ℕ) (ss : List ℕ) (x : Term) (r : Result (Option ℕ) Broken) : Type 0 where
+  pub law : (g : Graph) (t : Table ℕ) → Prices g n ss t → KidsIn N x → r ≡ Ok (priced AstSize x (prices t x.kids))
 
 -- the sum a, and the prices that are still to be added
 abbrev pub onto : ℕ → Option (List ℕ) → Option ℕ
-onto a none = none
-onto a (some ps) = some (add_on Capped a ps)
+onto a None = None
+onto a (Some ps) = Some (add_on Capped a ps)
 
 -- i children are added, and the sum of them is a
 pub record Adding (n N : ℕ) (ss : List ℕ) (x : Term) (i a : ℕ) : Type 0 where
@@ -38,16 +32,16 @@ pub record Adding (n N : ℕ) (ss : List ℕ) (x : Term) (i a : ℕ) : Type 0 wh
 
 priced_onto : (x : Term) (o : Option (List ℕ)) → priced AstSize x o ≡ onto 1 o
 unfolding priced
-priced_onto x none = refl
-priced_onto x (some ps) = refl
+priced_onto x None = refl
+priced_onto x (Some ps) = refl
 
 -- one child more, at the price b
-onto_more : (a : ℕ) (b : Best ℕ) (o : Option (List ℕ)) → onto a (with_price (some b) o) ≡ onto (min (a + b.price) cap) o
+onto_more : (a : ℕ) (b : Best ℕ) (o : Option (List ℕ)) → onto a (with_price (Some b) o) ≡ onto (min (a + b.price) cap) o
 unfolding with_price add_on
-onto_more a b none = refl
-onto_more a b (some ps) = refl
+onto_more a b None = refl
+onto_more a b (Some ps) = refl
 
-onto_none : (a : ℕ) (o : Option (List ℕ)) → onto a (with_price none o) ≡ none
+onto_none : (a : ℕ) (o : Option (List ℕ)) → onto a (with_price None o) ≡ None
 unfolding with_price
 onto_none a o = refl
 
@@ -66,22 +60,22 @@ module _ (n N : ℕ) (ss : List ℕ) (x : Term) where
       where
         go : (g : Graph) (t : Table ℕ) (o : Option (Best ℕ)) → As g e.mark e.price o
             → onto a (with_price o (prices t (drop (suc i) x.kids))) ≡ onto a' (prices t (drop (i + 1) x.kids))
-        go g t none z = absurd (some_mark z)
-        go g t (some b) N = rw (add-one i, q, N.price_is) (onto_more a b (prices t (drop (suc i) x.kids)))
+        go g t None z = absurd (some_mark z)
+        go g t (Some b) N = rw (add-one i, q, N.price_is) (onto_more a b (prices t (drop (suc i) x.kids)))
 
-    pub cost_none : e.mark ≡ 0 → CostsNode n N ss x NodeCostNone
-    cost_none z = record { law = λ g t P K. sym (ap told (A.law g t P K ∙ ap (onto a) (split t) ∙ go g t (look c t) (entry_as g n ss t c e P lt E))) }
+    pub cost_none : e.mark ≡ 0 → CostsNode n N ss x (Ok None)
+    cost_none z = record { law = λ g t P K. sym (ap Ok (A.law g t P K ∙ ap (onto a) (split t) ∙ go g t (look c t) (entry_as g n ss t c e P lt E))) }
       where
-        go : (g : Graph) (t : Table ℕ) (o : Option (Best ℕ)) → As g e.mark e.price o → onto a (with_price o (prices t (drop (suc i) x.kids))) ≡ none
-        go g t none w = onto_none a (prices t (drop (suc i) x.kids))
-        go g t (some b) N = absurd (omega (arith, N.marked))
+        go : (g : Graph) (t : Table ℕ) (o : Option (Best ℕ)) → As g e.mark e.price o → onto a (with_price o (prices t (drop (suc i) x.kids))) ≡ None
+        go g t None w = onto_none a (prices t (drop (suc i) x.kids))
+        go g t (Some b) N = absurd (omega (arith, N.marked))
 
-  pub cost_stray : (i c : ℕ) → i < length x.kids → c ≡ at x.kids i → N ≤ c → CostsNode n N ss x NodeCostBroken
+  pub cost_stray : (i c : ℕ) → i < length x.kids → c ≡ at x.kids i → N ≤ c → CostsNode n N ss x broken
   cost_stray i c hi is off = record { law = λ g t P K. absurd (omega (arith, K i hi)) }
 
-  pub cost_all : (i a : ℕ) → i ≡ length x.kids → Adding n N ss x i a → CostsNode n N ss x (NodeCostIs a)
+  pub cost_all : (i a : ℕ) → i ≡ length x.kids → Adding n N ss x i a → CostsNode n N ss x (Ok (Some a))
   unfolding prices add_on
-  cost_all i a e A = record { law = λ g t P K. sym (ap told (A.law g t P K ∙ last t)) }
+  cost_all i a e A = record { law = λ g t P K. sym (ap Ok (A.law g t P K ∙ last t)) }
     where
-      last : (t : Table ℕ) → onto a (prices t (drop i x.kids)) ≡ some a
+      last : (t : Table ℕ) → onto a (prices t (drop i x.kids)) ≡ Some a
       last t = rw (e, drop-length x.kids) refl

@@ -1,10 +1,12 @@
 -- A pass over the classes in ascending root id: `pass` promises what `pass` of Pass (price) says. The code gives every id its turn; an id that is no root has no nodes,
 -- so its turn takes nothing, and the pass over all ids is the pass over the roots.
 -- Assumes nothing.
+use Rattle.std.specs.Prelude.{Ok, Result, ◌≡◌, ◌+◌, suc, ℕ, length}
+use Rattle.broken.specs.declared.Broken.{Broken}
+use Rattle.broken.specs.Words.{broken}
 use mathlib.Core.List.{List, [], ◌++◌, ◌∷◌, filter}
 use Rattle.std.proofs.Math.Logic.{ite}
 use Rattle.std.proofs.Common.{◌∙◌, sym, add-one}
-use Rattle.std.specs.Prelude.{◌≡◌, ◌+◌, suc, ℕ, length}
 use Rattle.std.proofs.Math.Path.{ap, refl}
 use Rattle.std.proofs.Math.Decide.{ℕ_discrete}
 use native.Mathlib.Omega.{arith}
@@ -22,8 +24,6 @@ use Rattle.price.specs.Pass.{Table, accept, best, pass, turn}
 use Rattle.price.specs.Size.{AstSize}
 use Rattle.pricing.specs.Entries.{Prices}
 use Rattle.pricing.specs.Turn.{Scratched, Took, Turns, scratched_then, taken_broken}
-use Rattle.pricing.specs.declared.Taken.{Taken}
-use Rattle.pricing.specs.declared.Taken.TheVariants.{TakenBroken, TakenIs}
 
 -- ---- over plain lists
 
@@ -63,7 +63,7 @@ pass_all g C t =
 
 -- ---- the loop
 
-pub record Passes (h : Head) (ws : List ℕ) (r : Taken) (ws' : List ℕ) : Type 0 where
+pub record Passes (h : Head) (ws : List ℕ) (r : Result ℕ Broken) (ws' : List ℕ) : Type 0 where
   pub only : Scratched h.n h.m ws ws'
   pub law : (g : Graph) (t : Table ℕ) → Classed h (view h.n h.m ws) g → Prices g h.n (view h.n h.m ws).scratch t
       → Took g h.n (view h.n h.m ws').scratch t (pass AstSize (class_nodes g) (class_roots g) t) r
@@ -72,9 +72,9 @@ pub record Passes (h : Head) (ws : List ℕ) (r : Taken) (ws' : List ℕ) : Type
 pub record Passing (h : Head) (i k : ℕ) (ws ws' : List ℕ) : Type 0 where
   pub only : Scratched h.n h.m ws ws'
   pub law : (g : Graph) (t : Table ℕ) → Classed h (view h.n h.m ws) g → Prices g h.n (view h.n h.m ws).scratch t
-      → Took g h.n (view h.n h.m ws').scratch t (pass AstSize (class_nodes g) (upto i) t) (TakenIs k)
+      → Took g h.n (view h.n h.m ws').scratch t (pass AstSize (class_nodes g) (upto i) t) (Ok k)
 
-pub took_count : {g : Graph} {n : ℕ} {ss : List ℕ} {t u : Table ℕ} {k : ℕ} → Took g n ss t u (TakenIs k) → length u ≡ length t + k
+pub took_count : {g : Graph} {n : ℕ} {ss : List ℕ} {t u : Table ℕ} {k : ℕ} → Took g n ss t u (Ok k) → length u ≡ length t + k
 took_count {k = k} T = let z : T.count ≡ k = cc T.is in omega (arith, T.grown)
 
 module _ (h : Head) (ws : List ℕ) where
@@ -82,13 +82,13 @@ module _ (h : Head) (ws : List ℕ) where
   unfolding pass upto
   passing_start = record { only = lent_same ws (λ i l. refl); law = λ g t C P. record { count = 0; is = refl; prices = P; grown = omega arith } }
 
-  module _ (i k : ℕ) (ws1 ws2 : List ℕ) (A : Passing h i k ws ws1) (r : Taken) (B : Turns h i ws1 r ws2) where
+  module _ (i k : ℕ) (ws1 ws2 : List ℕ) (A : Passing h i k ws ws1) (r : Result ℕ Broken) (B : Turns h i ws1 r ws2) where
     -- the turn of id i, after those below it
     took : (g : Graph) (t : Table ℕ) → Classed h (view h.n h.m ws) g → Prices g h.n (view h.n h.m ws).scratch t
         → Took g h.n (view h.n h.m ws2).scratch (pass AstSize (class_nodes g) (upto i) t) (turn AstSize (class_nodes g) i (pass AstSize (class_nodes g) (upto i) t)) r
     took g t C P = B.law g (pass AstSize (class_nodes g) (upto i) t) (classed_lent A.only C) (A.law g t C P).prices
 
-    pub passing_more : (j : ℕ) → r ≡ TakenIs j → Passing h (i + 1) (k + j) ws ws2
+    pub passing_more : (j : ℕ) → r ≡ Ok j → Passing h (i + 1) (k + j) ws ws2
     passing_more j e = record {
       only = scratched_then A.only B.only;
       law = λ g t C P. one g t (took_count (A.law g t C P)) (took g t C P);
@@ -96,18 +96,18 @@ module _ (h : Head) (ws : List ℕ) where
       where
         one : (g : Graph) (t : Table ℕ) → length (pass AstSize (class_nodes g) (upto i) t) ≡ length t + k
             → Took g h.n (view h.n h.m ws2).scratch (pass AstSize (class_nodes g) (upto i) t) (turn AstSize (class_nodes g) i (pass AstSize (class_nodes g) (upto i) t)) r
-            → Took g h.n (view h.n h.m ws2).scratch t (pass AstSize (class_nodes g) (upto (i + 1)) t) (TakenIs (k + j))
+            → Took g h.n (view h.n h.m ws2).scratch t (pass AstSize (class_nodes g) (upto (i + 1)) t) (Ok (k + j))
         one g t l T =
             let z : T.count ≡ j = cc (T.is, e) in
             rw (add-one i, pass_upto (class_nodes g) i t) (record { count = k + j; is = refl; prices = T.prices; grown = omega (arith, T.grown) })
 
-    pub pass_broken : r ≡ TakenBroken → Passes h ws TakenBroken ws2
+    pub pass_broken : r ≡ broken → Passes h ws broken ws2
     pass_broken e = record {
       only = scratched_then A.only B.only;
       law = λ g t C P. let T = took g t C P in taken_broken T.count (sym e ∙ T.is);
     }
 
-  pub pass_done : (i k : ℕ) (ws' : List ℕ) → i ≡ h.ids → Passing h i k ws ws' → Passes h ws (TakenIs k) ws'
+  pub pass_done : (i k : ℕ) (ws' : List ℕ) → i ≡ h.ids → Passing h i k ws ws' → Passes h ws (Ok k) ws'
   pass_done i k ws' e A = record {
     only = A.only;
     law = λ g t C P. let q : i ≡ ids g = e ∙ classed_ids C in rw (pass_all g C t, ← q) (A.law g t C P);

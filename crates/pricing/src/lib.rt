@@ -25,12 +25,9 @@ ghost use Rattle.pricing.specs.Turn.{Accepts, Turns};
 ghost use Rattle.pricing.specs.Pass.{Passes};
 ghost use Rattle.pricing.specs.Costs.{FindsCosts};
 
-use egraph::NodesRead;
-use language::{Id, Node, wide};
+use broken::Broken;
+use language::{Id, Node};
 use layout::Head;
-
-// The greatest price.
-const CAP: u64 = 18446744073709551615;
 
 // Half of a price is one word.
 const WORD: u64 = 4294967296;
@@ -40,44 +37,6 @@ const WORD: u64 = 4294967296;
 pub struct Entry {
     pub mark: usize,
     pub price: u64,
-}
-
-// The price of a node, or none if a child has none; broken are words that no calls could have produced.
-#[derive(Clone, Copy)]
-pub enum NodeCost {
-    NodeCostIs(u64),
-    NodeCostNone,
-    NodeCostBroken,
-}
-
-#[derive(Clone, Copy)]
-pub enum Chosen {
-    ChosenIs(Entry),
-    ChosenBroken,
-}
-
-// How many entries were taken.
-#[derive(Clone, Copy)]
-pub enum Taken {
-    TakenIs(usize),
-    TakenBroken,
-}
-
-// Whether the passes have come to their end.
-#[derive(Clone, Copy)]
-pub enum Found {
-    CostsFound,
-    CostsBroken,
-}
-
-// The sum, or the greatest price.
-fn add(a: u64, b: u64) -> u64
-    ensures { result ≡ min (a + b) cap }
-{
-    if CAP - a < b {
-        return CAP;
-    }
-    a + b
 }
 
 // ---- entries in the scratch part
@@ -114,27 +73,24 @@ fn set_entry(ws: &mut [u32], h: Head, c: Id, e: Entry)
 // ---- the price of a node
 
 // 1 and the prices of the children's classes, added left to right.
-fn node_total_cost(ws: &[u32], h: Head, node: Node) -> NodeCost
+fn node_total_cost(ws: &[u32], h: Head, node: Node) -> Result<Option<u64>, Broken>
     requires head_ok { HeadOk (length ws.now) h }
     requires count_le_places { node.count ≤ places }
     ensures { CostsNode h.n h.ids (view h.n h.m ws.now).scratch (node_of node) result }
 {
-    let n = wide(node.count);
     let mut sum: u64 = 1;
-    let mut i: usize = 0;
-    while i < n {
+    for i in 0..node.count as usize {
         let c = node.child(i);
         if h.ids <= c.0 as usize {
-            return NodeCost::NodeCostBroken;
+            return Err(Broken);
         }
         let e = get_entry(ws, h, c);
         if e.mark == 0 {
-            return NodeCost::NodeCostNone;
+            return Ok(None);
         }
-        sum = add(sum, e.price);
-        i += 1;
+        sum = sum.saturating_add(e.price);
     }
-    NodeCost::NodeCostIs(sum)
+    Ok(Some(sum))
 }
 
 // ---- the best node of a class
@@ -155,49 +111,32 @@ fn choose(best: Entry, price: u64, id: Id) -> Entry
 }
 
 // The node of an id is looked at, where `best` is the best of those behind it.
-fn better(ws: &[u32], h: Head, id: Id, best: Entry) -> Chosen
+fn better(ws: &[u32], h: Head, id: Id, best: Entry) -> Result<Entry, Broken>
     requires head_ok { HeadOk (length ws.now) h }
     requires id_lt_n { (id.0 < h.n) × (best.mark ≤ h.n) }
     ensures { Betters h id.0 best (view h.n h.m ws.now) result }
 {
-    let got = egraph::root_node(ws, h, id);
-    let out = got.out;
-    let node = got.node;
-    let egraph::NodeOut::NodeIs = out else {
-        return Chosen::ChosenBroken;
-    };
-    match node_total_cost(ws, h, node) {
-        NodeCost::NodeCostBroken => Chosen::ChosenBroken,
-        NodeCost::NodeCostNone => Chosen::ChosenIs(best),
-        NodeCost::NodeCostIs(p) => {
-            let e = choose(best, p, id);
-            Chosen::ChosenIs(e)
-        }
+    let node = egraph::root_node(ws, h, id)?;
+    match node_total_cost(ws, h, node)? {
+        None => Ok(best),
+        Some(price) => Ok(choose(best, price, id)),
     }
 }
 
 // The first node in node order with the least price, of the nodes of class r: the walk goes back from the last.
-fn class_best(ws: &[u32], h: Head, r: Id) -> Chosen
+fn class_best(ws: &[u32], h: Head, r: Id) -> Result<Entry, Broken>
     requires head_ok { HeadOk (length ws.now) h }
     requires r_lt_n { r.0 < h.n }
     ensures { BestOf h r.0 (view h.n h.m ws.now) result }
 {
-    let NodesRead::NodesAt(start) = egraph::class_nodes(ws, h, r) else {
-        return Chosen::ChosenBroken;
-    };
+    let mut at = egraph::class_nodes(ws, h, r)?;
     let mut best = Entry { mark: 0, price: 0 };
-    let mut at = start;
+    // Not a `for`: each step back is refused where it meets broken words.
     while 0 < at.left {
-        let Chosen::ChosenIs(e) = better(ws, h, at.id, best) else {
-            return Chosen::ChosenBroken;
-        };
-        let NodesRead::NodesAt(to) = egraph::previous(ws, h, at) else {
-            return Chosen::ChosenBroken;
-        };
-        best = e;
-        at = to;
+        best = better(ws, h, at.id, best)?;
+        at = egraph::previous(ws, h, at)?;
     }
-    Chosen::ChosenIs(best)
+    Ok(best)
 }
 
 // ---- the passes
@@ -219,59 +158,45 @@ fn accepts(old: Entry, best: Entry) -> bool
 }
 
 // One class's turn.
-fn turn(ws: &mut [u32], h: Head, r: Id) -> Taken
+fn turn(ws: &mut [u32], h: Head, r: Id) -> Result<usize, Broken>
     requires head_ok { HeadOk (length ws.old) h }
     requires r_lt_n { r.0 < h.n }
     ensures { Turns h r.0 ws.old result ws.new }
 {
-    let Chosen::ChosenIs(best) = class_best(ws, h, r) else {
-        return Taken::TakenBroken;
-    };
+    let best = class_best(ws, h, r)?;
     let old = get_entry(ws, h, r);
     if accepts(old, best) {
         set_entry(ws, h, r, best);
-        return Taken::TakenIs(1);
+        return Ok(1);
     }
-    Taken::TakenIs(0)
+    Ok(0)
 }
 
 // A pass over the classes in ascending root id: what one turn takes counts in the next.
-fn pass(ws: &mut [u32], h: Head) -> Taken
+fn pass(ws: &mut [u32], h: Head) -> Result<usize, Broken>
     requires { HeadOk (length ws.old) h }
     ensures { Passes h ws.old result ws.new }
 {
-    let ids = h.ids;
     let mut taken: usize = 0;
-    let mut r: usize = 0;
-    while r < ids {
-        let Taken::TakenIs(k) = turn(ws, h, Id(r as u32)) else {
-            return Taken::TakenBroken;
-        };
-        taken += k;
-        r += 1;
+    for r in 0..h.ids {
+        taken += turn(ws, h, Id(r as u32))?;
     }
-    Taken::TakenIs(taken)
+    Ok(taken)
 }
 
 // Passes until one takes nothing. On a graph's words this comes within one more than there are classes; words that go on longer are no graph's.
-pub fn find_costs(ws: &mut [u32], h: Head) -> Found
+pub fn find_costs(ws: &mut [u32], h: Head) -> Result<(), Broken>
     requires { HeadIs (length ws.old) (hd ws.old) h }
     ensures { FindsCosts h ws.old result ws.new }
 {
     // a pass looks at no more nodes than there are ids: words whose classes have more are broken
-    let egraph::CountAnswer::CountIs(total) = egraph::total_number_of_nodes(ws) else {
-        return Found::CostsBroken;
-    };
-    let rounds = h.ids + 1;
-    let mut i: usize = 0;
-    while i < rounds {
-        let Taken::TakenIs(k) = pass(ws, h) else {
-            return Found::CostsBroken;
-        };
-        if k == 0 {
-            return Found::CostsFound;
-        }
-        i += 1;
+    if egraph::total_number_of_nodes(ws).is_err() {
+        return Err(Broken);
     }
-    Found::CostsBroken
+    for round in 0..h.ids + 1 {
+        if pass(ws, h)? == 0 {
+            return Ok(());
+        }
+    }
+    Err(Broken)
 }

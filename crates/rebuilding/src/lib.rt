@@ -7,32 +7,25 @@ ghost use Rattle.std.specs.Prelude.{length};
 ghost use Rattle.layout.specs.Head.{HeadOk};
 ghost use Rattle.rebuilding.specs.Rebuilding.{FinishSays, RebuildSays};
 
-use cells::Change;
-use holds::Stepped;
+use broken::Broken;
 use layout::Head;
 use taking::Drained;
 
 // The end of a rebuild, when nothing is pending: all nodes re-childed with roots, and all classes tidied.
-fn finish(ws: &mut [u32], h: Head) -> Stepped
+fn finish(ws: &mut [u32], h: Head) -> Result<Head, Broken>
     requires { HeadOk (length ws.old) h }
     ensures { FinishSays h ws.old result ws.new }
 {
-    let Change::ChangeDone = rechilding::rechild_all(ws, h) else {
-        return Stepped::SteppedBroken;
-    };
+    rechilding::rechild_all(ws, h)?;
     tidying::tidy(ws, h)
 }
 
 // A whole rebuild: the new numbers, the yes answers of its unions, and the entries taken.
-pub fn rebuild(ws: &mut [u32], h: Head) -> Drained
+pub fn rebuild(ws: &mut [u32], h: Head) -> Result<Drained, Broken>
     requires { HeadOk (length ws.old) h }
     ensures { RebuildSays h ws.old result ws.new }
 {
-    match taking::drain(ws, h) {
-        Drained::DrainedBroken => Drained::DrainedBroken,
-        Drained::DrainedTo(k, yes, taken) => match finish(ws, k) {
-            Stepped::SteppedBroken => Drained::DrainedBroken,
-            Stepped::SteppedTo(s) => Drained::DrainedTo(s, yes, taken),
-        },
-    }
+    let drained = taking::drain(ws, h)?;
+    let head = finish(ws, drained.head)?;
+    Ok(Drained { head, ..drained })
 }

@@ -1,13 +1,13 @@
 -- The key rows of all ids brought up to date, one after the other. What `rechild_all` promises, what holds on the way, and the ways out.
 -- Assumes nothing.
-use Rattle.std.specs.Prelude.{List, ◌≢◌, ◌≡◌, refl, ◌+◌, ◌<◌, ◌≤◌, ℕ}
+use Rattle.std.specs.Prelude.{Ok, Result, List, ◌≢◌, ◌≡◌, refl, ◌+◌, ◌<◌, ◌≤◌, ℕ}
+use Rattle.broken.specs.declared.Broken.{Broken}
+use Rattle.broken.specs.Words.{broken}
 use Rattle.std.proofs.Common.{⊎_elim, ◌∙◌, ap, sym, arith}
 use Rattle.lists.specs.Tests.{eq_or}
 use Rattle.language.specs.Term.{term_at}
 use Rattle.steps.specs.Graph.{Graph, ids, key_of}
 use Rattle.cells.specs.Changes.{change_apart}
-use Rattle.cells.specs.declared.Change.{Change}
-use Rattle.cells.specs.declared.Change.TheVariants.{ChangeBroken, ChangeDone}
 use Rattle.holds.specs.Holds.{HoldsAt, UpToDate}
 use Rattle.holds.specs.Inside.{Inside, inside_same, inside_then}
 use Rattle.layout.specs.View.{View, view}
@@ -19,9 +19,9 @@ pub record AllRechilded (h : Head) (u : ℕ) (v : View) (g : Graph) : Type 0 whe
   pub holds : HoldsAt h u v g
   pub keys : UpToDate holds
 
-pub record RechildsAll (h : Head) (ws : List ℕ) (r : Change) (ws' : List ℕ) : Type 0 where
+pub record RechildsAll (h : Head) (ws : List ℕ) (r : Result Unit Broken) (ws' : List ℕ) : Type 0 where
   pub inside : Inside h.n h.m ws ws'
-  pub sound : (g : Graph) (u : ℕ) → HoldsAt h u (view h.n h.m ws) g → Fit g → (r ≡ ChangeDone) × AllRechilded h u (view h.n h.m ws') g
+  pub sound : (g : Graph) (u : ℕ) → HoldsAt h u (view h.n h.m ws) g → Fit g → (r ≡ Ok tt) × AllRechilded h u (view h.n h.m ws') g
 
 -- ---- on the way: the rows of the ids below i are up to date
 
@@ -49,8 +49,8 @@ module _ (h : Head) (ws : List ℕ) where
     sound = λ g u H F. record { holds = H; keys = λ j l. absurd (omega arith) };
   }
 
-  module _ (i : ℕ) (r : Change) (ws1 ws2 : List ℕ) (A : RechildedTo h ws ws1 i) (R : RechildSays h i ws1 r ws2) (low : i < h.ids) where
-    one : (g : Graph) (u : ℕ) → HoldsAt h u (view h.n h.m ws) g → Fit g → (r ≡ ChangeDone) × RechildedBelow h u (view h.n h.m ws2) g (i + 1)
+  module _ (i : ℕ) (r : Result Unit Broken) (ws1 ws2 : List ℕ) (A : RechildedTo h ws ws1 i) (R : RechildSays h i ws1 r ws2) (low : i < h.ids) where
+    one : (g : Graph) (u : ℕ) → HoldsAt h u (view h.n h.m ws) g → Fit g → (r ≡ Ok tt) × RechildedBelow h u (view h.n h.m ws2) g (i + 1)
     one g u H F =
         let B = A.sound g u H F in
         let l : i < ids g = omega (arith, B.holds.ids_are) in
@@ -60,13 +60,13 @@ module _ (h : Head) (ws : List ℕ) where
     pub rechilded_more : RechildedTo h ws ws2 (i + 1)
     rechilded_more = record { inside = inside_then A.inside R.inside; sound = λ g u H F. (one g u H F).1 }
 
-    pub rechilded_broken : r ≡ ChangeBroken → RechildsAll h ws ChangeBroken ws2
+    pub rechilded_broken : r ≡ broken → RechildsAll h ws broken ws2
     rechilded_broken e = record {
       inside = inside_then A.inside R.inside;
       sound = λ g u H F. absurd (change_apart r e (one g u H F).0);
     }
 
-  pub rechilded_all : (i : ℕ) (ws' : List ℕ) → h.ids ≤ i → RechildedTo h ws ws' i → RechildsAll h ws ChangeDone ws'
+  pub rechilded_all : (i : ℕ) (ws' : List ℕ) → h.ids ≤ i → RechildedTo h ws ws' i → RechildsAll h ws (Ok tt) ws'
   rechilded_all i ws' end A = record {
     inside = A.inside;
     sound = λ g u H F.

@@ -1,19 +1,18 @@
 -- The key row of one id brought up to date: its node with root children. What `renew` and `rechild` promise. The graph is the same after it, at any time in its
 -- life; what is asked of it is what every made graph has.
 -- Assumes nothing.
-use Rattle.std.specs.Prelude.{Bool, false, true, List, [], ◌≢◌, ◌≡◌, refl, ◌<◌, ℕ}
+use Rattle.std.specs.Prelude.{Ok, Result, Bool, false, true, List, [], ◌≢◌, ◌≡◌, refl, ◌<◌, ℕ}
+use Rattle.broken.specs.declared.Broken.{Broken}
+use Rattle.broken.specs.Words.{broken}
 use Rattle.std.proofs.Common.{⊎_elim, ◌∙◌, ap, subst, sym, arith, get_or-set_other, get_or-set_same}
 use Rattle.lists.specs.Members.{Mem}
 use Rattle.lists.specs.Tests.{Says, eq_or, zero_one}
 use Rattle.language.specs.Struct.{node_of}
 use Rattle.language.specs.Term.{Term, term_at}
+use Rattle.language.specs.declared.Node.{Node}
 use Rattle.steps.specs.Graph.{Graph, ids, key_of, node}
 use Rattle.closure.specs.Slots.{Keyed}
 use Rattle.cells.specs.Changes.{change_apart}
-use Rattle.cells.specs.declared.Change.{Change}
-use Rattle.cells.specs.declared.Change.TheVariants.{ChangeBroken, ChangeDone}
-use Rattle.growing.specs.declared.Rooted.{Rooted}
-use Rattle.growing.specs.declared.Rooting.TheVariants.{RootingBroken}
 use Rattle.holds.specs.Holds.{HoldsAt}
 use Rattle.holds.specs.Inside.{Inside, inside_lent, inside_same, inside_then}
 use Rattle.holds.specs.Nodes.{Nodes}
@@ -23,10 +22,9 @@ use Rattle.layout.specs.Lent.{Lent, lent_next}
 use Rattle.layout.specs.View.{View, put, view}
 use Rattle.layout.specs.declared.Head.{Head}
 use Rattle.rows.specs.Promise
-use Rattle.rows.specs.Promise.{Key}
-use Rattle.rows.specs.declared.Fetched.{Fetched}
-use Rattle.rows.specs.declared.Rekey.{Rekey}
-use Rattle.rows.specs.declared.Rekey.TheVariants.{RekeyBroken, RekeyDone}
+use Rattle.rows.specs.Promise.{IsNode}
+use Rattle.rows.specs.Determined.{read_key}
+use Rattle.rows.specs.Read.{key_read}
 use Rattle.taking.specs.Fresh.{FreshSays}
 use Rattle.taking.specs.Leave.{VacateSays}
 
@@ -42,15 +40,15 @@ pub record Rechilded {h : Head} {u : ℕ} {v : View} {g : Graph} (H : HoldsAt h 
   pub others : (j : ℕ) → j ≢ i → term_at holds.nodes.keys j ≡ term_at H.nodes.keys j
 
 -- what `renew` promises, where the key row of i is not k
-pub record RenewSays (h : Head) (i : ℕ) (k : Term) (ws : List ℕ) (r : Change) (ws' : List ℕ) : Type 0 where
+pub record RenewSays (h : Head) (i : ℕ) (k : Term) (ws : List ℕ) (r : Result Unit Broken) (ws' : List ℕ) : Type 0 where
   pub inside : Inside h.n h.m ws ws'
   pub sound : (g : Graph) (u : ℕ) (H : HoldsAt h u (view h.n h.m ws) g) → Fit g → i < ids g → k ≡ key_of g i → term_at H.nodes.keys i ≢ k
-      → (r ≡ ChangeDone) × Rechilded H i (view h.n h.m ws')
+      → (r ≡ Ok tt) × Rechilded H i (view h.n h.m ws')
 
 -- what `rechild` promises
-pub record RechildSays (h : Head) (i : ℕ) (ws : List ℕ) (r : Change) (ws' : List ℕ) : Type 0 where
+pub record RechildSays (h : Head) (i : ℕ) (ws : List ℕ) (r : Result Unit Broken) (ws' : List ℕ) : Type 0 where
   pub inside : Inside h.n h.m ws ws'
-  pub sound : (g : Graph) (u : ℕ) (H : HoldsAt h u (view h.n h.m ws) g) → Fit g → i < ids g → (r ≡ ChangeDone) × Rechilded H i (view h.n h.m ws')
+  pub sound : (g : Graph) (u : ℕ) (H : HoldsAt h u (view h.n h.m ws) g) → Fit g → i < ids g → (r ≡ Ok tt) × Rechilded H i (view h.n h.m ws')
 
 -- ---- other rows and another table, of the same graph
 
@@ -79,21 +77,21 @@ module _ {h : Head} {u : ℕ} {v : View} {g : Graph} (H : HoldsAt h u v g) (i : 
 
 -- ---- the ways out of `renew`
 
-module _ (h : Head) (i : ℕ) (k : Term) (ws ws1 : List ℕ) (d : Change) (L : VacateSays h i ws d ws1) where
-  out : (g : Graph) (u : ℕ) (H : HoldsAt h u (view h.n h.m ws) g) → i < ids g → d ≡ ChangeDone
+module _ (h : Head) (i : ℕ) (k : Term) (ws ws1 : List ℕ) (d : Result Unit Broken) (L : VacateSays h i ws d ws1) where
+  out : (g : Graph) (u : ℕ) (H : HoldsAt h u (view h.n h.m ws) g) → i < ids g → d ≡ Ok tt
   out g u H low =
       let a = L.sound (view h.n h.m ws) refl g.nodes H.nodes.keys H.nodes.rows low in
       a.1 (a.4.sound H.nodes.keys H.nodes.buckets H.nodes.table refl)
 
-  pub renew_stuck : d ≡ ChangeBroken → RenewSays h i k ws ChangeBroken ws1
+  pub renew_stuck : d ≡ broken → RenewSays h i k ws broken ws1
   renew_stuck e = record {
     inside = L.inside;
     sound = λ g u H F low key stale. absurd (change_apart d e (out g u H low));
   }
 
-  module _ (ws2 : List ℕ) (q : Rekey) (K : Lent rows h.n h.m (λ w w'. Promise.Keyed w w' h.n h.m i k q) ws1 ws2) where
+  module _ (ws2 : List ℕ) (q : Result Unit Broken) (K : Lent rows h.n h.m (λ w w'. Promise.Keyed w w' h.n h.m i k q) ws1 ws2) where
     both : (g : Graph) (u : ℕ) (H : HoldsAt h u (view h.n h.m ws) g) → Fit g → i < ids g → k ≡ key_of g i → term_at H.nodes.keys i ≢ k
-        → (q ≡ RekeyDone) × Rechilded H i (view h.n h.m ws2)
+        → (q ≡ Ok tt) × Rechilded H i (view h.n h.m ws2)
     both g u H F low key stale =
         let a = L.sound (view h.n h.m ws) refl g.nodes H.nodes.keys H.nodes.rows low in
         let n = lent_next K a.3 in
@@ -105,42 +103,39 @@ module _ (h : Head) (i : ℕ) (k : Term) (ws ws1 : List ℕ) (d : Change) (L : V
               (λ j ne. ap (λ (ks : List Term). term_at ks j) b.3 ∙ get_or-set_other H.nodes.keys i j k (record { op = 0; payload = 0; kids = [] }) ne)),
         )
 
-    pub renew_torn : q ≡ RekeyBroken → RenewSays h i k ws ChangeBroken ws2
-    renew_torn e = record {
+    pub renew_set : RenewSays h i k ws q ws2
+    renew_set = record {
       inside = inside_then L.inside (inside_lent (λ v l. refl) K);
-      sound = λ g u H F low key stale. let f = (both g u H F low key stale).0 in zero_one cc;
-    }
-
-    pub renew_done : RenewSays h i k ws ChangeDone ws2
-    renew_done = record {
-      inside = inside_then L.inside (inside_lent (λ v l. refl) K);
-      sound = λ g u H F low key stale. (refl, (both g u H F low key stale).1);
+      sound = λ g u H F low key stale. both g u H F low key stale;
     }
 
 -- ---- the ways out of `rechild`
 
-module _ (h : Head) (i : ℕ) (ws : List ℕ) (f : Rooted) (F : FreshSays h i ws f) where
-  pub rechild_lost : f.out ≡ RootingBroken → RechildSays h i ws ChangeBroken ws
+module _ (h : Head) (i : ℕ) (ws : List ℕ) (f : Result Node Broken) (F : FreshSays h i ws f) where
+  pub rechild_lost : f ≡ broken → RechildSays h i ws broken ws
   rechild_lost e = record {
     inside = inside_same h.n h.m ws;
-    sound = λ g u H T low. let q = (F.sound g u H low (λ c. T.kids i c low)).0 in zero_one cc;
+    sound = λ g u H T low. let q = (F.sound g u H low (λ c. T.kids i c low)).1 in zero_one cc;
   }
 
-  module _ (w : Fetched) (W : Key (view h.n h.m ws).rows h.n h.m i w) (b : Bool) (S : Says b (node_of w.node ≡ node_of f.node)) where
+  module _ (x : Node) (is : f ≡ Ok x) (w : Node) (W : IsNode w (key_read (view h.n h.m ws).rows h.n h.m i)) (b : Bool) (S : Says b (node_of w ≡ node_of x)) where
     -- the row, and the key that it should have
-    row_is : (g : Graph) (u : ℕ) (H : HoldsAt h u (view h.n h.m ws) g) → i < ids g → node_of w.node ≡ term_at H.nodes.keys i
-    row_is g u H low = (W.sound g.nodes H.nodes.keys H.nodes.rows low).1
+    row_is : (g : Graph) (u : ℕ) (H : HoldsAt h u (view h.n h.m ws) g) → i < ids g → node_of w ≡ term_at H.nodes.keys i
+    row_is g u H low = W.exact ∙ read_key _ _ _ g.nodes H.nodes.keys H.nodes.rows i low
 
-    key_is : (g : Graph) (u : ℕ) (H : HoldsAt h u (view h.n h.m ws) g) → Fit g → i < ids g → node_of f.node ≡ key_of g i
-    key_is g u H T low = (F.sound g u H low (λ c. T.kids i c low)).1
+    key_is : (g : Graph) (u : ℕ) (H : HoldsAt h u (view h.n h.m ws) g) → Fit g → i < ids g → node_of x ≡ key_of g i
+    key_is g u H T low =
+        let q = F.sound g u H low (λ c. T.kids i c low) in
+        let same : q.0 ≡ x = let s = q.1 in cc in
+        rw (← same) q.2
 
-    pub rechild_same : b ≡ true → RechildSays h i ws ChangeDone ws
+    pub rechild_same : b ≡ true → RechildSays h i ws (Ok tt) ws
     rechild_same e = record {
       inside = inside_same h.n h.m ws;
       sound = λ g u H T low. (refl, record { holds = H; key = sym (row_is g u H low) ∙ S.holds e ∙ key_is g u H T low; others = λ j ne. refl });
     }
 
-    pub rechild_renewed : b ≡ false → (r : Change) (ws1 : List ℕ) → RenewSays h i (node_of f.node) ws r ws1 → RechildSays h i ws r ws1
+    pub rechild_renewed : b ≡ false → (r : Result Unit Broken) (ws1 : List ℕ) → RenewSays h i (node_of x) ws r ws1 → RechildSays h i ws r ws1
     rechild_renewed e r ws1 R = record {
       inside = R.inside;
       sound = λ g u H T low. R.sound g u H T low (key_is g u H T low) (λ q. S.fails e (row_is g u H low ∙ q));

@@ -16,60 +16,41 @@ ghost use Rattle.layout.specs.Head.{HeadOk};
 ghost use Rattle.rechilding.specs.Rechild.{RenewSays, RechildSays};
 ghost use Rattle.rechilding.specs.All.{RechildsAll};
 
-use cells::Change;
-use growing::Rooting;
+use broken::Broken;
 use language::{Id, Node};
 use layout::Head;
 
 // An id whose key row is out of date leaves the table, and its key row is set.
-fn renew(ws: &mut [u32], h: Head, id: Id, key: Node) -> Change
+fn renew(ws: &mut [u32], h: Head, id: Id, key: Node) -> Result<(), Broken>
     requires head_ok { HeadOk (length ws.old) h }
     requires id_lt_ids { (id.0 < h.ids) × (key.count ≤ places) }
     ensures { RenewSays h id.0 (node_of key) ws.old result ws.new }
 {
-    match taking::vacate(ws, h, id) {
-        Change::ChangeBroken => Change::ChangeBroken,
-        Change::ChangeDone => match parts::on_rows::set_key(ws, h, id, key) {
-            rows::Rekey::RekeyBroken => Change::ChangeBroken,
-            rows::Rekey::RekeyDone => Change::ChangeDone,
-        },
-    }
+    taking::vacate(ws, h, id)?;
+    parts::on_rows::set_key(ws, h, id, key)
 }
 
 // The key row of an id brought up to date.
-fn rechild(ws: &mut [u32], h: Head, id: Id) -> Change
+fn rechild(ws: &mut [u32], h: Head, id: Id) -> Result<(), Broken>
     requires head_ok { HeadOk (length ws.old) h }
     requires id_lt_ids { id.0 < h.ids }
     ensures { RechildSays h id.0 ws.old result ws.new }
 {
-    let f = taking::fresh_key(ws, h, id);
-    let out = f.out;
-    let key = f.node;
-    match out {
-        Rooting::RootingBroken => Change::ChangeBroken,
-        Rooting::RootingDone => {
-            let was = parts::on_rows::key(ws, h, id);
-            let node = was.node;
-            if node.same(key) {
-                return Change::ChangeDone;
-            }
-            renew(ws, h, id, key)
-        }
+    let key = taking::fresh_key(ws, h, id)?;
+    let row = parts::on_rows::key_or_leaf(ws, h, id);
+    if row.same(key) {
+        return Ok(());
     }
+    renew(ws, h, id, key)
 }
 
 // The key rows of all ids brought up to date.
-pub fn rechild_all(ws: &mut [u32], h: Head) -> Change
+pub fn rechild_all(ws: &mut [u32], h: Head) -> Result<(), Broken>
     requires { HeadOk (length ws.old) h }
     ensures { RechildsAll h ws.old result ws.new }
 {
-    let ids = h.ids;
-    let mut i: usize = 0;
-    while i < ids {
-        let Change::ChangeDone = rechild(ws, h, Id(i as u32)) else {
-            return Change::ChangeBroken;
-        };
-        i += 1;
+    for i in 0..h.ids {
+        rechild(ws, h, Id(i as u32))?;
     }
-    Change::ChangeDone
+    Ok(())
 }

@@ -2,7 +2,7 @@
 -- written out yet, or at the start of the room where those have just been written out.
 -- Assumes nothing.
 use Rattle.std.specs.Prelude.{List, ◌⊎◌, ◌≡◌, ◌+◌, ◌*◌, ◌<◌, ◌≤◌, ℕ, length, take}
-use Rattle.std.proofs.Common.{inl, inr, ◌∙◌, sym, take_all, le_refl, arith}
+use Rattle.std.proofs.Common.{inl, inr, arith}
 use Rattle.lists.specs.Tests.{lt_or}
 use Rattle.script.specs.Puts.{Wrote}
 use Rattle.script.specs.Reply.{reply_line}
@@ -29,10 +29,6 @@ pub record Answers (c : Call) (ws list out : List ℕ) (at : ℕ) (ws' list' out
   pub made : MadeBy c.verb c ws list told ws' list'
   pub said : Said out at told list' at' out'
 
--- what a list has is all that can be taken from it
-pub take_whole : {A : Type 0} (xs : List A) (k : ℕ) → length xs < k → take (length xs) xs ≡ take k xs
-take_whole xs k h = take_all (length xs) xs (le_refl _) ∙ sym (take_all k xs (omega arith))
-
 -- there is room for the longest line behind answers that were not written out: the room for a list has 81,920 words, that for answers 1,048,576 bytes
 pub room_left : {at start : ℕ} (out : List ℕ) (list : List ℕ) → Room at start → length out ≡ 1048576 → length list ≡ 81920 → start + 11 * length list + 43 ≤ length out
 room_left {at} {start} out list r o l = let k : start ≤ 65536 = small (lt_or 65536 at) in omega (arith, o, l, k)
@@ -40,6 +36,3 @@ room_left {at} {start} out list r o l = let k : start ≤ 65536 = small (lt_or 6
     small : (65536 < at) ⊎ (at ≤ 65536) → start ≤ 65536
     small (inl h) = omega (arith, r.long h)
     small (inr h) = omega (arith, r.short h, h)
-
-pub said : {out : List ℕ} {at : ℕ} {told : Told} {list : List ℕ} {start at' : ℕ} {out' : List ℕ} → Room at start → Wrote out start (told_line told list) at' out' → Said out at told list at' out'
-said {start = start} r w = record { start = start; room = r; line = w }

@@ -1,7 +1,8 @@
-// A script of calls answered: standard input is read in pieces, each line's call is made on one graph, and the line that answers it is written. The script's grammar is
-// that of the crate `script`. The programs `replay` and `replay_kept` are this and nothing else.
+// A script of calls answered: standard input is read in pieces, each line's call is made on one graph, and the line that answers it is
+// written. The script's grammar is that of the crate `script`. The programs `replay` and `replay_kept` are this and nothing else.
 //
-// The words, the room for a list, the line that is being read and the answers that are not written out yet are four arrays of the program, lent on from there.
+// The words, the room for a list, the line that is being read and the answers that are not written out yet are four arrays of the program,
+// lent on from there.
 #![tactic(auto)]
 
 use script::Reply;
@@ -23,17 +24,6 @@ pub const OUT: usize = 1048576;
 pub struct Told {
     pub reply: Reply,
     pub words: usize,
-}
-
-// What is under way: how many bytes of a line have been read, how many bytes of answers are not written out yet, whether there may be more to read, and whether a read or
-// a write has failed.
-#[derive(Clone, Copy)]
-pub struct Progress {
-    pub used: usize,
-    pub at: usize,
-    pub open: bool,
-    pub unread: bool,
-    pub unwritten: bool,
 }
 
 mod calls;

@@ -1,15 +1,25 @@
 // What a call answered as a reply.
 ghost use Rattle.std.specs.Prelude.{◌≡◌};
-ghost use Rattle.replaying.specs.Replies.{refusal_reply, setup_reply, find_reply, add_reply, lookup_reply, union_reply, cost_reply, count_reply, flag_reply, list_told, form_told, spelled_told, alone};
+ghost use Rattle.replaying.specs.Replies.{alone, count_tells, flag_tells, form_tells, found_tells, id_tells, list_tells, refusal_reply, setup_tells, told};
+ghost use Rattle.replaying.specs.declared.Told.{Told};
 
 use super::Told;
-use egraph::{
-    AddAnswer, CountAnswer, FindAnswer, FlagAnswer, ListAnswer, LookupAnswer, Refusal, SetupAnswer,
-    UnionAnswer,
-};
-use extract::{CostAnswer, FormAnswer};
+use egraph::Refusal;
+use extract::Form;
+use language::Id;
 use script::Reply;
-use spelling::Spelled;
+
+// How many words of the list a call has written.
+#[derive(Clone, Copy)]
+pub struct Words(pub usize);
+
+// What a call may answer with.
+pub trait Tells {
+    ghost tells: { Self → Told };
+
+    fn tell(self) -> Told
+        ensures { result ≡ tells self };
+}
 
 // A reply without words.
 pub fn plain(reply: Reply) -> Told
@@ -18,120 +28,94 @@ pub fn plain(reply: Reply) -> Told
     Told { reply, words: 0 }
 }
 
-pub fn refused(why: Refusal) -> Reply
-    ensures { result ≡ refusal_reply why }
-{
-    Reply::ReplyRefused(why.number())
-}
+impl Tells for () {
+    ghost tells = { setup_tells };
 
-pub fn on_setup(a: SetupAnswer) -> Reply
-    ensures { result ≡ setup_reply a }
-{
-    match a {
-        SetupAnswer::SetupDone => Reply::ReplyDone,
-        SetupAnswer::SetupNot(why) => refused(why),
+    fn tell(self) -> Told {
+        plain(Reply::Done)
     }
 }
 
-pub fn on_find(a: FindAnswer) -> Reply
-    ensures { result ≡ find_reply a }
-{
-    match a {
-        FindAnswer::FindRoot(id) => Reply::ReplyNumber(id.0 as u64),
-        FindAnswer::FindNot(why) => refused(why),
+impl Tells for Id {
+    ghost tells = { id_tells };
+
+    fn tell(self) -> Told {
+        plain(Reply::Number(u64::from(self.0)))
     }
 }
 
-pub fn on_add(a: AddAnswer) -> Reply
-    ensures { result ≡ add_reply a }
-{
-    match a {
-        AddAnswer::AddId(id) => Reply::ReplyNumber(id.0 as u64),
-        AddAnswer::AddNot(why) => refused(why),
+impl Tells for Option<Id> {
+    ghost tells = { found_tells };
+
+    fn tell(self) -> Told {
+        match self {
+            Some(id) => id.tell(),
+            None => plain(Reply::None),
+        }
     }
 }
 
-pub fn on_lookup(a: LookupAnswer) -> Reply
-    ensures { result ≡ lookup_reply a }
-{
-    match a {
-        LookupAnswer::LookupFound(id) => Reply::ReplyNumber(id.0 as u64),
-        LookupAnswer::LookupNone => Reply::ReplyNone,
-        LookupAnswer::LookupNot(why) => refused(why),
+impl Tells for bool {
+    ghost tells = { flag_tells };
+
+    fn tell(self) -> Told {
+        plain(if self { Reply::Yes } else { Reply::No })
     }
 }
 
-pub fn on_union(a: UnionAnswer) -> Reply
-    ensures { result ≡ union_reply a }
-{
-    match a {
-        UnionAnswer::UnionYes => Reply::ReplyYes,
-        UnionAnswer::UnionNo => Reply::ReplyNo,
-        UnionAnswer::UnionNot(why) => refused(why),
+impl Tells for u64 {
+    ghost tells = { count_tells };
+
+    fn tell(self) -> Told {
+        plain(Reply::Number(self))
     }
 }
 
-pub fn on_count(a: CountAnswer) -> Reply
-    ensures { result ≡ count_reply a }
-{
-    match a {
-        CountAnswer::CountIs(k) => Reply::ReplyNumber(k as u64),
-        CountAnswer::CountNot(why) => refused(why),
+impl Tells for usize {
+    ghost tells = { count_tells };
+
+    fn tell(self) -> Told {
+        plain(Reply::Number(self as u64))
     }
 }
 
-pub fn on_cost(a: CostAnswer) -> Reply
-    ensures { result ≡ cost_reply a }
-{
-    match a {
-        CostAnswer::CostIs(size) => Reply::ReplyNumber(size),
-        CostAnswer::CostNot(why) => refused(why),
+impl Tells for Words {
+    ghost tells = { λ k. list_tells k.0 };
+
+    fn tell(self) -> Told {
+        Told {
+            reply: Reply::Words,
+            words: self.0,
+        }
     }
 }
 
-pub fn on_flag(a: FlagAnswer) -> Reply
-    ensures { result ≡ flag_reply a }
-{
-    match a {
-        FlagAnswer::FlagYes => Reply::ReplyYes,
-        FlagAnswer::FlagNo => Reply::ReplyNo,
-        FlagAnswer::FlagNot(why) => refused(why),
+impl Tells for Form {
+    ghost tells = { form_tells };
+
+    fn tell(self) -> Told {
+        Told {
+            reply: Reply::Sized(self.size),
+            words: self.words,
+        }
     }
 }
 
-pub fn on_list(a: ListAnswer) -> Told
-    ensures { result ≡ list_told a }
-{
-    match a {
-        ListAnswer::ListWords(k) => Told {
-            reply: Reply::ReplyWords,
-            words: k,
-        },
-        ListAnswer::ListNot(why) => plain(refused(why)),
+impl From<Refusal> for Told {
+    ghost from_gives = { λ q r. r ≡ alone (refusal_reply q) };
+
+    fn from(why: Refusal) -> Told {
+        plain(Reply::Refused(why.number()))
     }
 }
 
-// The words of a node stand in a list, or the list is too short for them.
-pub fn on_node(s: Spelled) -> Told
-    ensures { result ≡ spelled_told s }
-{
-    match s {
-        Spelled::SpelledWords(k) => Told {
-            reply: Reply::ReplyWords,
-            words: k,
-        },
-        Spelled::SpelledLong => plain(refused(Refusal::TooLong)),
-    }
-}
+impl<T: Tells> From<Result<T, Refusal>> for Told {
+    ghost from_gives = { λ a r. r ≡ told T.tells a };
 
-pub fn on_form(a: FormAnswer) -> Told
-    ensures { result ≡ form_told a }
-{
-    match a {
-        FormAnswer::FormIs(size, k) => Told {
-            reply: Reply::ReplySized(size),
-            words: k,
-        },
-        FormAnswer::FormNot(why) => plain(refused(why)),
+    fn from(answer: Result<T, Refusal>) -> Told {
+        match answer {
+            Ok(value) => value.tell(),
+            Err(why) => Told::from(why),
+        }
     }
 }

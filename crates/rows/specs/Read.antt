@@ -1,6 +1,6 @@
 -- What a read of any words gives: the node of an id as given, and its key. Both are total, since a child count that no call wrote counts as none.
 -- Assumes nothing.
-use Rattle.std.specs.Prelude.{List, ◌≡◌, ◌+◌, ◌≤◌, ℕ, drop, take}
+use Rattle.std.specs.Prelude.{List, [], ◌≡◌, ◌+◌, ◌≤◌, ℕ, drop, take}
 use Rattle.std.proofs.Math.Decide.{dec_le}
 use Rattle.lists.specs.Reads.{at}
 use Rattle.lists.specs.Tests.{both, when, when_no, when_yes}
@@ -12,6 +12,10 @@ Sane ws n m i = (at ws (n + (n + i)) ≤ places) × (at ws (n + (n + (n + i))) +
 
 pub sane_test : (ws : List ℕ) (n m i : ℕ) → Dec (Sane ws n m i)
 sane_test ws n m i = both (dec_le (at ws (n + (n + i))) places) (dec_le (at ws (n + (n + (n + i))) + at ws (n + (n + i))) m)
+
+-- the operator and the payload of id i, as a node without children
+unfoldable pub leaf_at : List ℕ → ℕ → ℕ → Term
+leaf_at ws n i = record { op = at ws i; payload = at ws (n + i); kids = [] }
 
 -- how many children are read
 unfoldable pub read_count : List ℕ → ℕ → ℕ → ℕ → ℕ

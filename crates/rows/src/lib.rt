@@ -17,30 +17,11 @@ ghost use Rattle.language.specs.Term.{places};
 ghost use Rattle.language.specs.Struct.{node_of};
 ghost use Rattle.rows.specs.Rows.{size};
 ghost use Rattle.rows.specs.Kids.{filled};
-ghost use Rattle.rows.specs.Promise.{Reads, Given, Key, Stored, Keyed};
+ghost use Rattle.rows.specs.Read.{leaf_at, read, given_read, key_read};
+ghost use Rattle.rows.specs.Promise.{IsNode, Reads, Given, Key, Stored, Keyed};
 
-use language::{Id, Node, Op, put_kids, wide};
-
-// Whether a read found a node, or a child count or places that no calls could have written.
-#[derive(Clone, Copy)]
-pub enum Fetch {
-    FetchDone,
-    FetchBroken,
-}
-
-// What a read found. The node is a leaf where it found none.
-#[derive(Clone, Copy)]
-pub struct Fetched {
-    pub out: Fetch,
-    pub node: Node,
-}
-
-// Whether a key was set, or the words have no places for it.
-#[derive(Clone, Copy)]
-pub enum Rekey {
-    RekeyDone,
-    RekeyBroken,
-}
+use broken::Broken;
+use language::{Id, Node, Op, put_kids};
 
 // A leaf, with the children that stand from a place on.
 fn take_kids(ws: &[u32], place: usize, count: usize, leaf: Node) -> Node
@@ -48,51 +29,42 @@ fn take_kids(ws: &[u32], place: usize, count: usize, leaf: Node) -> Node
     ensures { (result.count ≡ count) × (node_of result ≡ filled (node_of leaf) (take count (drop place ws.now))) }
 {
     let mut node = leaf;
-    let mut i: usize = 0;
-    while i < count {
-        node = node.with(Id(ws[place + i]));
-        i += 1;
+    for kid in &ws[place..place + count] {
+        node = node.with(Id(*kid));
     }
     node
 }
 
+// An id's operator and payload, as a node without children.
+fn read_leaf(ws: &[u32], n: usize, id: Id) -> Node
+    requires { (n + n ≤ length ws.now) × (id.0 < n) }
+    ensures { (result.count ≡ 0) × (node_of result ≡ leaf_at ws.now n id.0) }
+{
+    let i = id.0 as usize;
+    Node::leaf(Op(ws[i]), ws[n + i])
+}
+
 // The node of an id, with the children that stand behind base.
-fn read_row(ws: &[u32], n: usize, m: usize, id: Id, base: usize) -> Fetched
+fn read_row(ws: &[u32], n: usize, m: usize, id: Id, base: usize) -> Result<Node, Broken>
     requires { (length ws.now ≡ size n m) × (id.0 < n) × (base + m ≤ size n m) }
     ensures { Reads ws.now n m id.0 base result }
 {
-    let i = wide(id.0);
-    let a = n + i;
-    let b = n + a;
+    let i = id.0 as usize;
+    let b = n + (n + i);
     let f = n + b;
-    let op = Op(ws[i]);
-    let leaf = Node::leaf(op, ws[a]);
-    let count = wide(ws[b]);
-    let first = wide(ws[f]);
+    let count = ws[b] as usize;
+    let first = ws[f] as usize;
     if count > language::PLACES {
-        let out = Fetch::FetchBroken;
-        return Fetched {
-            out: out,
-            node: leaf,
-        };
+        return Err(Broken);
     }
     if first + count > m {
-        let out = Fetch::FetchBroken;
-        return Fetched {
-            out: out,
-            node: leaf,
-        };
+        return Err(Broken);
     }
-    let node = take_kids(ws, base + first, count, leaf);
-    let out = Fetch::FetchDone;
-    Fetched {
-        out: out,
-        node: node,
-    }
+    Ok(take_kids(ws, base + first, count, read_leaf(ws, n, id)))
 }
 
 // The node of an id as it was given.
-pub fn given(ws: &[u32], n: usize, m: usize, id: Id) -> Fetched
+pub fn given(ws: &[u32], n: usize, m: usize, id: Id) -> Result<Node, Broken>
     requires { (length ws.now ≡ size n m) × (id.0 < n) }
     ensures { Given ws.now n m id.0 result }
 {
@@ -100,11 +72,35 @@ pub fn given(ws: &[u32], n: usize, m: usize, id: Id) -> Fetched
 }
 
 // The node of an id with the children that its key row has.
-pub fn key(ws: &[u32], n: usize, m: usize, id: Id) -> Fetched
+pub fn key(ws: &[u32], n: usize, m: usize, id: Id) -> Result<Node, Broken>
     requires { (length ws.now ≡ size n m) × (id.0 < n) }
     ensures { Key ws.now n m id.0 result }
 {
     read_row(ws, n, m, id, n + n + n + n + m)
+}
+
+// The node of an id with the children that stand behind base, or without children where its row has none that a call could have written.
+fn row_or_leaf(ws: &[u32], n: usize, m: usize, id: Id, base: usize) -> Node
+    requires { (length ws.now ≡ size n m) × (id.0 < n) × (base + m ≤ size n m) }
+    ensures { IsNode result (read ws.now n m id.0 base) }
+{
+    read_row(ws, n, m, id, base).unwrap_or(read_leaf(ws, n, id))
+}
+
+// The node of an id as it was given, on any words: a row that no call could have written counts as one without children.
+pub fn given_or_leaf(ws: &[u32], n: usize, m: usize, id: Id) -> Node
+    requires { (length ws.now ≡ size n m) × (id.0 < n) }
+    ensures { IsNode result (given_read ws.now n m id.0) }
+{
+    row_or_leaf(ws, n, m, id, n + n + n + n)
+}
+
+// The node of an id with the children that its key row has, on any words: a row that no call could have written counts as one without children.
+pub fn key_or_leaf(ws: &[u32], n: usize, m: usize, id: Id) -> Node
+    requires { (length ws.now ≡ size n m) × (id.0 < n) }
+    ensures { IsNode result (key_read ws.now n m id.0) }
+{
+    row_or_leaf(ws, n, m, id, n + n + n + n + m)
 }
 
 // A new id: the node as given, and its key.
@@ -113,7 +109,7 @@ pub fn store(ws: &mut [u32], n: usize, m: usize, id: Id, place: usize, node: Nod
     requires count_le_places { (node.count ≤ places) × (key.count ≡ node.count) }
     ensures { Stored ws.old ws.new n m id.0 place (node_of node) (node_of key) }
 {
-    let i = wide(id.0);
+    let i = id.0 as usize;
     let a = n + i;
     let b = n + a;
     let f = n + b;
@@ -126,22 +122,21 @@ pub fn store(ws: &mut [u32], n: usize, m: usize, id: Id, place: usize, node: Nod
 }
 
 // Another key for an id.
-pub fn set_key(ws: &mut [u32], n: usize, m: usize, id: Id, node: Node) -> Rekey
+pub fn set_key(ws: &mut [u32], n: usize, m: usize, id: Id, node: Node) -> Result<(), Broken>
     requires { (length ws.old ≡ size n m) × (id.0 < n) × (node.count ≤ places) }
     ensures { Keyed ws.old ws.new n m id.0 (node_of node) result }
 {
-    let i = wide(id.0);
+    let i = id.0 as usize;
     let b = n + (n + i);
     let f = n + b;
     let count = ws[b];
-    let first = wide(ws[f]);
+    let first = ws[f] as usize;
     if count != node.count {
-        return Rekey::RekeyBroken;
+        return Err(Broken);
     }
-    let c = wide(count);
-    if first + c > m {
-        return Rekey::RekeyBroken;
+    if first + count as usize > m {
+        return Err(Broken);
     }
     put_kids(ws, n + n + n + n + m + first, node);
-    Rekey::RekeyDone
+    Ok(())
 }

@@ -1,10 +1,9 @@
 -- A line that is read byte by byte into a slice. What the slice holds are the line's first bytes, all of them or as many as it has room for; with room for one byte more than
 -- the longest line that is enough to know what the line says.
 -- Assumes nothing.
-use Rattle.std.specs.Prelude.{List, [], ◌∷◌, ◌++◌, ◌≡◌, refl, ℕ, suc, ◌+◌, ◌≤◌, ◌<◌, length, set, take}
-use Rattle.std.proofs.Common.{sym, ap, ◌∙◌, add-one, arith, length-append, length-set, length-take, length-take-le, take_all, take-suc-set}
+use Rattle.std.specs.Prelude.{List, [], ◌∷◌, ◌++◌, ◌≡◌, ℕ, suc, ◌≤◌, ◌<◌, length, take}
+use Rattle.std.proofs.Common.{sym, ap, ◌∙◌, arith, length-take-le, take_all}
 use Rattle.std.proofs.Math.Decide.{dec_lt}
-use Rattle.std.proofs.lemmas.List.{take-append-le}
 use Rattle.std.proofs.Math.Seq.{take-nil}
 use Rattle.script.specs.Line.{line_of, longest}
 use Rattle.script.specs.LineLaws.{line_long}
@@ -29,15 +28,6 @@ module _ {line : List ℕ} {used : ℕ} {bs : List ℕ} (g : Gathered line used 
   count : used ≡ length (take (length line) bs)
   count = sym (length-take-le used line g.within) ∙ ap length g.text
 
-  room : used < length line → take used line ≡ bs
-  room h = g.text ∙ take_all (length line) bs (omega (arith, count, length-take (length line) bs))
-
-  room_count : used < length line → used ≡ length bs
-  room_count h = omega (arith, count, length-take (length line) bs)
-
-  full : length line ≤ used → length line ≤ length bs
-  full h = omega (arith, count, length-take (length line) bs)
-
   -- a slice of one byte more than the longest line says as much as the line
   pub whole_line : length line ≡ suc longest → line_of (take used line) ≡ line_of bs
   whole_line e = go (dec_lt (length line) (length bs))
@@ -47,21 +37,3 @@ module _ {line : List ℕ} {used : ℕ} {bs : List ℕ} (g : Gathered line used 
           let n : length (take used line) ≡ suc longest = ap length g.text ∙ length-take-le (length line) bs (omega arith) ∙ e in
           line_long (take used line) (omega arith) ∙ sym (line_long bs (omega arith))
       go (no l) = ap line_of (g.text ∙ take_all (length line) bs (omega arith))
-
-pub keeps_full : (line : List ℕ) (used b : ℕ) → used ≤ length line → length line ≤ used → Keeps line used b used line
-keeps_full line used b h l = record {
-  size = refl;
-  within = h;
-  law = λ bs g. record { within = h; text = g.text ∙ sym (take-append-le (length line) bs (b ∷ []) (full g l)) };
-}
-
-pub keeps_more : (line : List ℕ) (used b : ℕ) → used < length line → Keeps line used b (used + 1) (set line used b)
-keeps_more line used b h = record { size = length-set line used b; within = fits; law = λ bs g. record { within = fits; text = more bs g } }
-  where
-    fits : used + 1 ≤ length (set line used b)
-    fits = omega (arith, length-set line used b)
-
-    more : (bs : List ℕ) → Gathered line used bs → take (used + 1) (set line used b) ≡ take (length (set line used b)) (bs ++ (b ∷ []))
-    more bs g =
-        let whole : take (length (set line used b)) (bs ++ (b ∷ [])) ≡ bs ++ (b ∷ []) = take_all (length (set line used b)) (bs ++ (b ∷ [])) (omega (arith, length-set line used b, length-append bs (b ∷ []), room_count g h)) in
-        rw (add-one used, take-suc-set line used b h, room g h) (sym whole)

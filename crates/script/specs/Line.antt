@@ -2,13 +2,13 @@
 -- carriage return at its end, are no part of it: editors and systems put them there unasked. Of what is left, the bare line, an empty one and a note (a
 -- first byte 35, `#`) are passed over; any other is a call if its first field is a verb, all others are numbers, and there are as many as the verb takes.
 -- Assumes nothing.
-use Rattle.std.specs.Prelude.{◌&&◌, cond, List, [], ◌∷◌, ◌≡◌, ℕ, ◌-◌, ◌≤◌, eqb, leb, ltb, drop, get_or, length, take}
-use Rattle.script.specs.Fields.{Nums, all, fields_of, most_numbers, nope, numbers_of}
-use Rattle.script.specs.Verbs.{same, verb_of_word}
+use Rattle.std.specs.Prelude.{◌&&◌, bytes_eq, cond, List, [], ◌∷◌, ◌≡◌, ℕ, ◌-◌, eqb, leb, ltb, drop, get_or, length, take, Option, Some, None}
+use Rattle.script.specs.Fields.{fields_of, numbers_of}
+use Rattle.script.specs.Verbs.{verb_of_word}
 use Rattle.script.specs.declared.Call.{Call}
 use Rattle.script.specs.declared.Shape.{Shape}
 use Rattle.script.specs.declared.Verb.{Verb}
-use Rattle.script.specs.declared.Verb.TheVariants.{VerbBad, VerbSkip}
+use Rattle.script.specs.declared.Verb.TheVariants.{Bad, Skip}
 
 -- a line of more bytes is no call
 abbrev pub longest : ℕ
@@ -19,14 +19,15 @@ pub record Line : Type 0 where
   pub numbers : List ℕ
 
 abbrev pub skip : Line
-skip = record { verb = VerbSkip; numbers = [] }
+skip = record { verb = Skip; numbers = [] }
 
 abbrev pub bad : Line
-bad = record { verb = VerbBad; numbers = [] }
+bad = record { verb = Bad; numbers = [] }
 
-abbrev pub call : Shape → Nums → Line
-call v nope = bad
-call v (all ns) = cond (leb v.least (length ns) && leb (length ns) v.most) (record { verb = v.verb; numbers = ns }) bad
+abbrev pub call : Option Shape → Option (List ℕ) → Line
+call None ns = bad
+call (Some v) None = bad
+call (Some v) (Some ns) = cond (leb v.least (length ns) && leb (length ns) v.most) (record { verb = v.verb; numbers = ns }) bad
 
 abbrev pub of_fields : List (List ℕ) → Line
 of_fields [] = bad
@@ -38,7 +39,7 @@ mark = 239 ∷ 187 ∷ 191 ∷ []
 
 -- without one byte-order mark at the start
 unfoldable pub unmarked : List ℕ → List ℕ
-unmarked s = cond (same (take 3 s) mark) (drop 3 s) s
+unmarked s = cond (bytes_eq (take 3 s) mark) (drop 3 s) s
 
 -- without one carriage return (13) at the end
 unfoldable pub unreturned : List ℕ → List ℕ
@@ -65,19 +66,7 @@ said r = record { verb = r.verb; numbers = take r.count r.numbers }
 -- what `parse` promises: the answer is the line, number for number
 pub record Says (line : List ℕ) (r : Call) : Type 0 where
   pub exact : line_of line ≡ said r
-  pub few : r.count ≤ most_numbers
 
 -- the same of a bare line
 pub record SaysBare (s : List ℕ) (r : Call) : Type 0 where
   pub exact : bare_line s ≡ said r
-  pub few : r.count ≤ most_numbers
-
--- a line without its byte-order mark begins at r
-pub record Starts (line : List ℕ) (r : ℕ) : Type 0 where
-  pub within : r ≤ length line
-  pub bytes : drop r line ≡ unmarked line
-
--- a line without its carriage return ends at r
-pub record Ends (line : List ℕ) (r : ℕ) : Type 0 where
-  pub counts : r ≡ length (take r line)
-  pub bytes : take r line ≡ unreturned line

@@ -1,10 +1,9 @@
 -- The line that answers a call, byte for byte, with its line feed (10) at the end: `0` and what was answered, `no` and the number of a refusal, or `?` for a line that is no
 -- call. A line that is passed over has none. ws are the words of the list or form that was answered, and mean nothing elsewhere.
 -- Assumes nothing.
-use Rattle.std.specs.Prelude.{List, [], ◌∷◌, ◌++◌, ℕ}
-use Rattle.script.specs.Decimal.{decimal}
+use Rattle.std.specs.Prelude.{codes, decimal, List, [], ◌∷◌, ◌++◌, ℕ}
 use Rattle.script.specs.declared.Reply.{Reply}
-use Rattle.script.specs.declared.Reply.TheVariants.{ReplyBad, ReplyDone, ReplyNo, ReplyNone, ReplyNumber, ReplyRefused, ReplySized, ReplySkip, ReplyWords, ReplyYes}
+use Rattle.script.specs.declared.Reply.TheVariants.{Bad, Done, No, None, Number, Refused, Sized, Skip, Words, Yes}
 
 -- a space and a number
 abbrev pub word : ℕ → List ℕ
@@ -15,24 +14,23 @@ unfoldable pub words : List ℕ → List ℕ
 words [] = []
 words (w ∷ ws) = word w ++ words ws
 
+-- a text and a line feed
+abbrev pub fed : List ℕ → List ℕ
+fed text = text ++ (10 ∷ [])
+
 abbrev pub reply_line : Reply → List ℕ → List ℕ
--- 0
-reply_line ReplyDone ws = 48 ∷ 10 ∷ []
+reply_line Done ws = fed (codes "0")
 -- 0 K
-reply_line (ReplyNumber k) ws = 48 ∷ (word k ++ (10 ∷ []))
--- 0 yes
-reply_line ReplyYes ws = 48 ∷ 32 ∷ 121 ∷ 101 ∷ 115 ∷ 10 ∷ []
--- 0 no
-reply_line ReplyNo ws = 48 ∷ 32 ∷ 110 ∷ 111 ∷ 10 ∷ []
--- 0 none
-reply_line ReplyNone ws = 48 ∷ 32 ∷ 110 ∷ 111 ∷ 110 ∷ 101 ∷ 10 ∷ []
+reply_line (Number k) ws = fed (codes "0" ++ word k)
+reply_line Yes ws = fed (codes "0 yes")
+reply_line No ws = fed (codes "0 no")
+reply_line None ws = fed (codes "0 none")
 -- 0 W W ..
-reply_line ReplyWords ws = 48 ∷ (words ws ++ (10 ∷ []))
+reply_line Words ws = fed (codes "0" ++ words ws)
 -- 0 SIZE W W ..
-reply_line (ReplySized k) ws = 48 ∷ (word k ++ (words ws ++ (10 ∷ [])))
+reply_line (Sized k) ws = codes "0" ++ (word k ++ fed (words ws))
 -- no R
-reply_line (ReplyRefused r) ws = 110 ∷ 111 ∷ (word r ++ (10 ∷ []))
--- ?
-reply_line ReplyBad ws = 63 ∷ 10 ∷ []
+reply_line (Refused r) ws = fed (codes "no" ++ word r)
+reply_line Bad ws = fed (codes "?")
 -- no line
-reply_line ReplySkip ws = []
+reply_line Skip ws = []

@@ -3,74 +3,61 @@
 // answered to `put_reply`.
 #![tactic(auto)]
 
+ghost use Rattle.std.specs.Prelude.{◌≤◌};
+ghost use Rattle.script.specs.Fields.{most_numbers};
+
 // A line of more bytes is no call.
 const LONGEST: usize = 4096;
 
 // A line of more numbers is no call: room for 22 children, of which more than eight are refused by the call.
 pub const NUMBERS: usize = 24;
 
-// The count of a row that is none.
-const TOO_MANY: usize = 25;
-
-// The names of the calls are the Rust's. A line that is to be passed over is VerbSkip; one that is no call is VerbBad.
-#[derive(Clone, Copy)]
+// The names of the calls are the Rust's. A line that is to be passed over is Skip; one that is no call is Bad.
+#[derive(Clone, Copy, Debug, PartialEq, Eq)]
 pub enum Verb {
-    VerbSetup,
-    VerbAdd,
-    VerbAddUncanonical,
-    VerbLookup,
-    VerbFind,
-    VerbUnion,
-    VerbRebuild,
-    VerbClasses,
-    VerbClassesForOp,
-    VerbNodes,
-    VerbIdToNode,
-    VerbIsEmpty,
-    VerbClean,
-    VerbNumberOfClasses,
-    VerbTotalNumberOfNodes,
-    VerbFindBestCost,
-    VerbFindBest,
-    VerbSkip,
-    VerbBad,
+    Setup,
+    Add,
+    AddUncanonical,
+    Lookup,
+    Find,
+    Union,
+    Rebuild,
+    Classes,
+    ClassesForOp,
+    Nodes,
+    IdToNode,
+    IsEmpty,
+    Clean,
+    NumberOfClasses,
+    TotalNumberOfNodes,
+    FindBestCost,
+    FindBest,
+    Skip,
+    Bad,
 }
 
-// A call: its verb, and the first `count` of `numbers`; the places past them mean nothing.
+// A call: its verb, and the first `count` of `numbers`; the places past them mean nothing. A slice of them would need a heap or a loan.
 #[derive(Clone, Copy)]
 pub struct Call {
     pub verb: Verb,
     pub count: usize,
     pub numbers: [u32; NUMBERS],
+    pub ghost few: { count ≤ most_numbers },
 }
 
 // What a call answered, for the line that says so. The words of a list or a form stand in a slice beside it.
-#[derive(Clone, Copy)]
+#[derive(Clone, Copy, Debug, PartialEq, Eq)]
 pub enum Reply {
-    ReplyDone,
-    ReplyNumber(u64),
-    ReplyYes,
-    ReplyNo,
-    ReplyNone,
-    ReplyWords,
-    ReplySized(u64),
-    ReplyRefused(u32),
-    ReplyBad,
-    ReplySkip,
-}
-
-// A field as a number, if it is one.
-#[derive(Clone, Copy)]
-enum Num {
-    NumIs(u32),
-    NumNot,
-}
-
-// The numbers of all fields. The count TOO_MANY says that a field is no number, or that there are more than NUMBERS.
-#[derive(Clone, Copy)]
-struct Row {
-    count: usize,
-    values: [u32; NUMBERS],
+    Done,
+    Number(u64),
+    Yes,
+    No,
+    None,
+    Words,
+    Sized(u64),
+    Refused(u32),
+    Bad,
+    Skip,
 }
 
 // A verb, and the least and the most numbers that it takes.
@@ -83,10 +70,8 @@ struct Shape {
 
 mod fields;
 mod lines;
+mod replies;
 mod verbs;
 
 pub use lines::{keep, parse};
-
-mod replies;
-
 pub use replies::put_reply;

@@ -1,33 +1,22 @@
 // What a whole line says.
-ghost use Rattle.std.specs.Prelude.{List, ◌∷◌, ◌≡◌, ℕ, ◌≤◌, length, take};
-ghost use Rattle.script.specs.Fields.{fields_of, Sought, NumbersSay};
-ghost use Rattle.script.specs.Line.{Ends, Says, SaysBare, Starts};
+ghost use Rattle.std.specs.Prelude.{◌≡◌, ◌≤◌, length};
+ghost use Rattle.std.specs.Option.{option_map_or};
+ghost use Rattle.script.specs.Fields.{fields_of};
+ghost use Rattle.script.specs.Line.{Says, SaysBare, bad, bare, of_fields, said};
 ghost use Rattle.script.specs.Gathered.{Keeps};
 
-use super::{Call, LONGEST, NUMBERS, Row, Verb};
+use super::fields::number;
+use super::verbs::verb_of;
+use super::{Call, LONGEST, NUMBERS, Verb};
 
-fn plain(v: Verb) -> Call
-    ensures { (result.verb ≡ v) × (result.count ≡ 0) }
+fn plain(verb: Verb) -> Call
+    ensures { (result.verb ≡ verb) × (result.count ≡ 0) }
 {
     Call {
-        verb: v,
+        verb,
         count: 0,
-        numbers: [0u32; NUMBERS],
+        numbers: [0; NUMBERS],
     }
-}
-
-// The numbers after the verb, which ends at e.
-fn arguments(line: &[u8], e: usize) -> Row
-    requires { Sought line.now 32 e }
-    ensures { (fs : List (List ℕ)) → fields_of line.now ≡ take e line.now ∷ fs → NumbersSay fs result.count result.values }
-{
-    if line.len() <= e {
-        return Row {
-            count: 0,
-            values: [0u32; NUMBERS],
-        };
-    }
-    super::fields::numbers(&line[e + 1..])
 }
 
 // One byte more of a line that is read byte by byte; bytes past the slice's length are passed over. A slice of LONGEST + 1 bytes is enough to know what the line says.
@@ -42,59 +31,46 @@ pub fn keep(line: &mut [u8], used: usize, b: u8) -> usize
     used + 1
 }
 
-// Where a line begins: behind a byte-order mark, if it has one.
-fn start(line: &[u8]) -> usize
-    ensures { Starts line.now result }
+// A line without the byte-order mark that it may begin with, and without the carriage return that it may end with.
+fn bare(line: &[u8]) -> &[u8]
+    ensures { result.now ≡ bare line.now }
 {
-    if line.len() < 3 {
-        return 0;
-    }
-    if check::same(&line[..3], b"\xef\xbb\xbf") {
-        return 3;
-    }
-    0
+    let line = line.strip_prefix(b"\xef\xbb\xbf").unwrap_or(line);
+    line.strip_suffix(b"\r").unwrap_or(line)
 }
 
-// Where a line ends: before a carriage return, if that is its last byte.
-fn end(line: &[u8]) -> usize
-    ensures { Ends line.now result }
+// The call that a bare line makes: a verb, and as many numbers as it takes.
+fn call_of(line: &[u8]) -> Option<Call>
+    ensures { of_fields (fields_of line.now) ≡ option_map_or said result bad }
 {
-    if line.len() == 0 {
-        return 0;
+    let mut fields = line.split(|b| *b == b' ');
+    let shape = verb_of(fields.next()?)?;
+    let mut numbers = [0; NUMBERS];
+    let mut count = 0;
+    for field in fields {
+        if count == NUMBERS {
+            return None;
+        }
+        numbers[count] = number(field)?;
+        count += 1;
     }
-    let last = line.len() - 1;
-    if line[last] == 13 {
-        return last;
+    if !(shape.least..=shape.most).contains(&count) {
+        return None;
     }
-    line.len()
+    Some(Call {
+        verb: shape.verb,
+        count,
+        numbers,
+    })
 }
 
-// What a bare line says: one without a byte-order mark and a carriage return.
+// What a bare line says.
 fn parse_bare(line: &[u8]) -> Call
     ensures { SaysBare line.now result }
 {
-    if line.len() == 0 {
-        return plain(Verb::VerbSkip);
-    }
-    if line[0] == 35 {
-        return plain(Verb::VerbSkip);
-    }
-    let e = super::fields::seek(line, 32);
-    let shape = super::verbs::verb_of(&line[..e]);
-    let row = arguments(line, e);
-    let count = row.count;
-    if count < shape.least {
-        return plain(Verb::VerbBad);
-    }
-    if shape.most < count {
-        return plain(Verb::VerbBad);
-    }
-    let verb = shape.verb;
-    let numbers = row.values;
-    Call {
-        verb,
-        count,
-        numbers,
+    match line {
+        [] | [b'#', ..] => plain(Verb::Skip),
+        _ => call_of(line).unwrap_or(plain(Verb::Bad)),
     }
 }
 
@@ -103,10 +79,7 @@ pub fn parse(line: &[u8]) -> Call
     ensures { Says line.now result }
 {
     if LONGEST < line.len() {
-        return plain(Verb::VerbBad);
+        return plain(Verb::Bad);
     }
-    let a = start(line);
-    let rest = &line[a..];
-    let e = end(rest);
-    parse_bare(&rest[..e])
+    parse_bare(bare(line))
 }

@@ -1,28 +1,19 @@
 // The line that answers a call, put into a slice at a place. Each function answers the place behind what it has put, and leaves all else of the slice as it was.
-ghost use Rattle.std.specs.Prelude.{[], ◌∷◌, ◌++◌, ◌≡◌, ◌+◌, ◌*◌, ◌≤◌, ◌<◌, ◌^◌, length};
-ghost use Rattle.script.specs.Decimal.{decimal};
-ghost use Rattle.script.specs.Reply.{word, words as words_of, reply_line};
+// Slice and place stay two parameters, as `put_reply` has them: a struct of both would be taken apart again there.
+ghost use Rattle.std.specs.Prelude.{◌∷◌, ◌++◌, ◌≡◌, ◌+◌, ◌*◌, ◌≤◌, ◌<◌, ◌^◌, length, decimal};
+ghost use Rattle.script.specs.Reply.{fed, word, words as words_of, reply_line};
 ghost use Rattle.script.specs.Puts.{Wrote};
 
 use super::Reply;
-
-fn wide(w: u32) -> u64
-    ensures { (result ≡ w) × (result < 2 ^ 32) }
-{
-    w as u64
-}
 
 // The bytes of src.
 fn put(out: &mut [u8], at: usize, src: &[u8]) -> usize
     requires { at + length src.now ≤ length out.old }
     ensures { Wrote out.old at src.now result out.new }
 {
-    let mut i = 0;
-    while i < src.len() {
-        out[at + i] = src[i];
-        i += 1;
-    }
-    at + i
+    let next = at + src.len();
+    out[at..next].copy_from_slice(src);
+    next
 }
 
 // A number in decimal.
@@ -30,9 +21,7 @@ fn put_number(out: &mut [u8], at: usize, n: u64) -> usize
     requires { at + 20 ≤ length out.old }
     ensures { Wrote out.old at (decimal n) result out.new }
 {
-    let mut text = [0u8; 20];
-    let k = io::decimal(n, &mut text);
-    put(out, at, &text[..k])
+    put(out, at, itoa::Buffer::new().format(n).as_bytes())
 }
 
 // A space and a number.
@@ -52,10 +41,8 @@ fn put_words(out: &mut [u8], at: usize, words: &[u32]) -> usize
     ensures upper_bound { result ≤ at + 11 * length words.now }
 {
     let mut next = at;
-    let mut i = 0;
-    while i < words.len() {
-        next = put_word(out, next, wide(words[i]));
-        i += 1;
+    for w in words {
+        next = put_word(out, next, u64::from(*w));
     }
     next
 }
@@ -63,7 +50,7 @@ fn put_words(out: &mut [u8], at: usize, words: &[u32]) -> usize
 // What stands in front, one number, and the end of the line.
 fn put_one(out: &mut [u8], at: usize, front: &[u8], n: u64) -> usize
     requires { at + length front.now + 22 ≤ length out.old }
-    ensures { Wrote out.old at ((front.now ++ word n) ++ (10 ∷ [])) result out.new }
+    ensures { Wrote out.old at (fed (front.now ++ word n)) result out.new }
 {
     let a = put(out, at, front);
     let b = put_word(out, a, n);
@@ -73,7 +60,7 @@ fn put_one(out: &mut [u8], at: usize, front: &[u8], n: u64) -> usize
 // The words of a list.
 fn put_list(out: &mut [u8], at: usize, words: &[u32]) -> usize
     requires { at + 11 * length words.now + 22 ≤ length out.old }
-    ensures { Wrote out.old at (48 ∷ (words_of words.now ++ (10 ∷ []))) result out.new }
+    ensures { Wrote out.old at (fed (48 ∷ words_of words.now)) result out.new }
 {
     let a = put(out, at, b"0");
     let b = put_words(out, a, words);
@@ -83,7 +70,7 @@ fn put_list(out: &mut [u8], at: usize, words: &[u32]) -> usize
 // A size, and the words of a form.
 fn put_form(out: &mut [u8], at: usize, size: u64, words: &[u32]) -> usize
     requires { at + 11 * length words.now + 43 ≤ length out.old }
-    ensures { Wrote out.old at (48 ∷ (word size ++ (words_of words.now ++ (10 ∷ [])))) result out.new }
+    ensures { Wrote out.old at (48 ∷ (word size ++ fed (words_of words.now))) result out.new }
 {
     let a = put(out, at, b"0");
     let b = put_word(out, a, size);
@@ -97,15 +84,15 @@ pub fn put_reply(out: &mut [u8], at: usize, reply: Reply, words: &[u32]) -> usiz
     ensures { Wrote out.old at (reply_line reply words.now) result out.new }
 {
     match reply {
-        Reply::ReplyDone => put(out, at, b"0\n"),
-        Reply::ReplyNumber(k) => put_one(out, at, b"0", k),
-        Reply::ReplyYes => put(out, at, b"0 yes\n"),
-        Reply::ReplyNo => put(out, at, b"0 no\n"),
-        Reply::ReplyNone => put(out, at, b"0 none\n"),
-        Reply::ReplyWords => put_list(out, at, words),
-        Reply::ReplySized(size) => put_form(out, at, size, words),
-        Reply::ReplyRefused(r) => put_one(out, at, b"no", wide(r)),
-        Reply::ReplyBad => put(out, at, b"?\n"),
-        Reply::ReplySkip => at,
+        Reply::Done => put(out, at, b"0\n"),
+        Reply::Number(k) => put_one(out, at, b"0", k),
+        Reply::Yes => put(out, at, b"0 yes\n"),
+        Reply::No => put(out, at, b"0 no\n"),
+        Reply::None => put(out, at, b"0 none\n"),
+        Reply::Words => put_list(out, at, words),
+        Reply::Sized(size) => put_form(out, at, size, words),
+        Reply::Refused(r) => put_one(out, at, b"no", u64::from(r)),
+        Reply::Bad => put(out, at, b"?\n"),
+        Reply::Skip => at,
     }
 }

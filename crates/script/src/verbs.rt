@@ -1,79 +1,41 @@
 // The verbs, and how many numbers each takes.
-ghost use Rattle.std.specs.Prelude.{cond, ◌≡◌};
-ghost use Rattle.script.specs.Verbs.{same as same_word, shape, chosen, reads_table, changes_table, counts_table, verb_of_word};
+ghost use Rattle.std.specs.Prelude.{◌≡◌, map};
+ghost use Rattle.script.specs.Verbs.{chosen, entry, verb_of_word};
 
 use super::{NUMBERS, Shape, Verb};
 
-// One row of the table: this verb if w is its name, and else what the rows below it say.
-fn is(w: &[u8], name: &[u8], verb: Verb, least: usize, most: usize, other: Shape) -> Shape
-    ensures { result ≡ cond (same_word w.now name.now) (shape verb least most) other }
+// The name of each verb, and the least and the most numbers that it takes.
+const TABLE: [(&[u8], Verb, usize, usize); 17] = [
+    (b"setup", Verb::Setup, 2, 2),
+    (b"add", Verb::Add, 2, NUMBERS),
+    (b"add_uncanonical", Verb::AddUncanonical, 2, NUMBERS),
+    (b"lookup", Verb::Lookup, 2, NUMBERS),
+    (b"union", Verb::Union, 2, 2),
+    (b"rebuild", Verb::Rebuild, 0, 0),
+    (b"find", Verb::Find, 1, 1),
+    (b"classes", Verb::Classes, 0, 0),
+    (b"classes_for_op", Verb::ClassesForOp, 1, 1),
+    (b"nodes", Verb::Nodes, 0, 0),
+    (b"id_to_node", Verb::IdToNode, 1, 1),
+    (b"is_empty", Verb::IsEmpty, 0, 0),
+    (b"clean", Verb::Clean, 0, 0),
+    (b"number_of_classes", Verb::NumberOfClasses, 0, 0),
+    (b"total_number_of_nodes", Verb::TotalNumberOfNodes, 0, 0),
+    (b"find_best_cost", Verb::FindBestCost, 1, 1),
+    (b"find_best", Verb::FindBest, 1, 1),
+];
+
+// The verb of the first row with this name.
+fn row_of(rows: &[(&[u8], Verb, usize, usize)], w: &[u8]) -> Option<Shape>
+    ensures { result ≡ chosen w.now (map (λ r. entry r.0.now r.1 r.2 r.3) rows.now) }
 {
-    if check::same(w, name) {
-        return Shape { verb, least, most };
-    }
-    other
+    let (_, verb, least, most) = *rows.iter().find(|row| row.0 == w)?;
+    Some(Shape { verb, least, most })
 }
 
-fn changes(w: &[u8], other: Shape) -> Shape
-    ensures { result ≡ chosen w.now changes_table other }
-{
-    let other = is(w, b"rebuild", Verb::VerbRebuild, 0, 0, other);
-    let other = is(w, b"union", Verb::VerbUnion, 2, 2, other);
-    let other = is(w, b"lookup", Verb::VerbLookup, 2, NUMBERS, other);
-    let other = is(
-        w,
-        b"add_uncanonical",
-        Verb::VerbAddUncanonical,
-        2,
-        NUMBERS,
-        other,
-    );
-    let other = is(w, b"add", Verb::VerbAdd, 2, NUMBERS, other);
-    let other = is(w, b"setup", Verb::VerbSetup, 2, 2, other);
-    other
-}
-
-fn reads(w: &[u8], other: Shape) -> Shape
-    ensures { result ≡ chosen w.now reads_table other }
-{
-    let other = is(w, b"is_empty", Verb::VerbIsEmpty, 0, 0, other);
-    let other = is(w, b"id_to_node", Verb::VerbIdToNode, 1, 1, other);
-    let other = is(w, b"nodes", Verb::VerbNodes, 0, 0, other);
-    let other = is(w, b"classes_for_op", Verb::VerbClassesForOp, 1, 1, other);
-    let other = is(w, b"classes", Verb::VerbClasses, 0, 0, other);
-    let other = is(w, b"find", Verb::VerbFind, 1, 1, other);
-    other
-}
-
-fn counts(w: &[u8], other: Shape) -> Shape
-    ensures { result ≡ chosen w.now counts_table other }
-{
-    let total = Verb::VerbTotalNumberOfNodes;
-    let other = is(w, b"find_best", Verb::VerbFindBest, 1, 1, other);
-    let other = is(w, b"find_best_cost", Verb::VerbFindBestCost, 1, 1, other);
-    let other = is(w, b"total_number_of_nodes", total, 0, 0, other);
-    let other = is(
-        w,
-        b"number_of_classes",
-        Verb::VerbNumberOfClasses,
-        0,
-        0,
-        other,
-    );
-    let other = is(w, b"clean", Verb::VerbClean, 0, 0, other);
-    other
-}
-
-// The verb with this name; one that is none takes at least 1 number and at most 0.
-pub fn verb_of(w: &[u8]) -> Shape
+// The verb with this name.
+pub fn verb_of(w: &[u8]) -> Option<Shape>
     ensures { result ≡ verb_of_word w.now }
 {
-    let other = Shape {
-        verb: Verb::VerbBad,
-        least: 1,
-        most: 0,
-    };
-    let other = counts(w, other);
-    let other = reads(w, other);
-    changes(w, other)
+    row_of(&TABLE, w)
 }

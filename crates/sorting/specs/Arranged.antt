@@ -5,8 +5,8 @@ use Rattle.std.specs.Prelude.{List, [], ◌++◌, ◌∷◌, ◌⊎◌, ◌≡�
 use Rattle.std.proofs.Common.{inl, inr, ⊎_elim, ◌∙◌}
 use Rattle.lists.specs.Members.{Mem, here, mem-append-cases, mem-cases, mem-left, mem-nil, mem-right, there}
 use Rattle.lists.specs.Sorted.{Ascending, first, none_left}
-use Rattle.language.specs.declared.Ordering.{Ordering}
-use Rattle.language.specs.declared.Ordering.TheVariants.{Equal, Greater, Less}
+use Rattle.std.specs.declared.cmp.Ordering.{Ordering}
+use Rattle.std.specs.declared.cmp.Ordering.TheVariants.{Equal, Greater, Less}
 
 -- a test that orders ids, of which some may be equal in it
 pub record Lawful (cmp : ℕ → ℕ → Ordering) : Type 0 where

@@ -1,10 +1,9 @@
 -- The order in which the rows in front put ids, and that the words of a stretch are ids, which is what a comparison of two of them asks.
 -- Assumes nothing.
-use Rattle.std.specs.Prelude.{List, ◌≢◌, ◌≡◌, ◌+◌, ◌-◌, ◌<◌, ◌≤◌, ℕ, length, take}
-use Rattle.std.proofs.Common.{⊎_elim, ap, not-suc-le-zero, arith}
+use Rattle.std.specs.Prelude.{List, ◌≡◌, ◌+◌, ◌-◌, ◌<◌, ◌≤◌, ℕ, length, take}
+use Rattle.std.proofs.Common.{ap, arith}
 use Rattle.lists.specs.Members.{Mem}
 use Rattle.lists.specs.Reads.{at}
-use Rattle.lists.specs.Tests.{eq_or}
 use Rattle.language.specs.Ordered.{order}
 use Rattle.language.specs.Term.{Term}
 use Rattle.rows.specs.Read.{key_read}
@@ -13,7 +12,7 @@ use Rattle.sorting.specs.Arranged.{Lawful}
 use Rattle.lists.specs.Parts.{take_same}
 use Rattle.sorting.specs.Keyed.{keyed, keyed_lawful}
 use Rattle.sorting.specs.Stretch.{stretch, stretch_from, stretch_has}
-use Rattle.language.specs.declared.Ordering.{Ordering}
+use Rattle.std.specs.declared.cmp.Ordering.{Ordering}
 
 -- the key of an id, as the rows in front have it
 abbrev pub key_of : List ℕ → ℕ → ℕ → ℕ → Term
@@ -37,12 +36,6 @@ by_nodes ws n m x y u v o p q e = rw (← p, ← q) e
 -- each of the a words from lo on is an id
 pub record Below (ws : List ℕ) (n lo a : ℕ) : Type 0 where
   pub each : (p : ℕ) → p < a → at ws (lo + p) < n
-
-pub below_none : (ws : List ℕ) (n lo : ℕ) → Below ws n lo 0
-below_none ws n lo = record { each = λ p h. absurd (not-suc-le-zero h) }
-
-pub below_more : (ws : List ℕ) (n lo a : ℕ) → Below ws n lo a → at ws (lo + a) < n → Below ws n lo (a + 1)
-below_more ws n lo a B h = record { each = λ p l. ⊎_elim (λ (e : p ≡ a). rw e h) (λ (e : p ≢ a). B.each p (omega arith)) (eq_or p a) }
 
 module _ (ws : List ℕ) (n lo a : ℕ) (B : Below ws n lo a) where
   -- a word of the stretch

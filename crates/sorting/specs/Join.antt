@@ -8,57 +8,67 @@ use Rattle.sorting.specs.Arranged.{Arranged, Merged, Rising, arranged_join, in_o
 use Rattle.sorting.specs.Ids.{Below, below_from, below_part, below_same, by, by_lawful, by_same}
 use Rattle.sorting.specs.Merge.{Merges}
 use Rattle.sorting.specs.Run.{Area, Kept, Ran, kept_same}
-use Rattle.sorting.specs.Stretch.{Only, stretch, stretch_first, stretch_join, stretch_one, stretch_same}
-use Rattle.language.specs.declared.Ordering.TheVariants.{Less}
+use Rattle.sorting.specs.Stretch.{stretch, stretch_first, stretch_join, stretch_moved, stretch_one, stretch_same, words}
+use Rattle.sorting.specs.declared.Stretch.{Stretch}
+use Rattle.std.specs.List.{CopiedTo, SameBelow, SameFrom}
+use Rattle.std.specs.declared.cmp.Ordering.TheVariants.{Less}
 
--- a ids at lo, b ids at mid, and as many words to work in n further on
-pub record Near (ws : List ℕ) (n m lo a mid b : ℕ) : Type 0 where
-  pub front : size n m ≤ lo
-  pub ordered : lo + a ≤ mid
-  pub below : mid + b ≤ lo + n
-  pub room : lo + n + (a + b) ≤ length ws
-  pub left_ids : Below ws n lo a
-  pub right_ids : Below ws n mid b
+-- two stretches of ids, and as many words to work in n further on
+pub record Near (ws : List ℕ) (n m : ℕ) (l r : Stretch) : Type 0 where
+  pub front : size n m ≤ l.start
+  pub ordered : l.start + l.len ≤ r.start
+  pub below : r.start + r.len ≤ l.start + n
+  pub room : l.start + n + (l.len + r.len) ≤ length ws
+  pub left_ids : Below ws n l.start l.len
+  pub right_ids : Below ws n r.start r.len
 
 -- the second run starts where the first, which comes before it, ends
-pub record Meet (ws : List ℕ) (n m lo a mid b : ℕ) : Type 0 where
-  pub touch : lo + a ≡ mid
-  pub some_left : 0 < a
-  pub some_right : 0 < b
-  pub comes : by ws n m (at ws (mid - 1)) (at ws mid) ≡ Less
+pub record Meet (ws : List ℕ) (n m : ℕ) (l r : Stretch) : Type 0 where
+  pub touch : l.start + l.len ≡ r.start
+  pub some_left : 0 < l.len
+  pub some_right : 0 < r.len
+  pub comes : by ws n m (at ws (r.start - 1)) (at ws r.start) ≡ Less
 
 -- d ids are left of both: their merge, if the first run is ascending
-pub record Joins (ws ws' : List ℕ) (n m lo a mid b d : ℕ) : Type 0 where
-  pub few : d ≤ a + b
-  pub kept : Kept ws ws' n lo (a + b)
-  pub merged : Rising (by ws n m) (stretch ws lo a) → Merged (by ws n m) (stretch ws lo a) (stretch ws mid b) (stretch ws' lo d)
+pub record Joins (ws ws' : List ℕ) (n m : ℕ) (l r : Stretch) (d : ℕ) : Type 0 where
+  pub few : d ≤ l.len + r.len
+  pub kept : Kept ws ws' n l.start (l.len + r.len)
+  pub merged : Rising (by ws n m) (words ws l) → Merged (by ws n m) (words ws l) (words ws r) (stretch ws' l.start d)
 
-pub joins_ready : (ws : List ℕ) (n m lo a mid b : ℕ) → Meet ws n m lo a mid b → Joins ws ws n m lo a mid b (a + b)
-joins_ready ws n m lo a mid b M = record { few = omega arith; kept = kept_same ws n lo (a + b); merged = λ s. all s }
+pub joins_ready : (ws : List ℕ) (n m : ℕ) (l r : Stretch) → Meet ws n m l r → Joins ws ws n m l r (l.len + r.len)
+joins_ready ws n m l r M = record { few = omega arith; kept = kept_same ws n l.start (l.len + r.len); merged = λ s. all s }
   where
-    front : stretch ws lo a ≡ stretch ws lo (a - 1) ++ (at ws (mid - 1) ∷ [])
+    front : words ws l ≡ stretch ws l.start (l.len - 1) ++ (at ws (r.start - 1) ∷ [])
     front =
-        let e : a ≡ a - 1 + 1 = omega (arith, M.some_left) in
-        let f : lo + (a - 1) ≡ mid - 1 = omega (arith, M.some_left, M.touch) in
-        subst (λ (k : ℕ). stretch ws lo k ≡ stretch ws lo (a - 1) ++ (at ws (mid - 1) ∷ [])) (sym e) (rw (stretch_join ws lo (a - 1) 1, f, stretch_one ws (mid - 1)) refl)
+        let e : l.len ≡ l.len - 1 + 1 = omega (arith, M.some_left) in
+        let f : l.start + (l.len - 1) ≡ r.start - 1 = omega (arith, M.some_left, M.touch) in
+        subst (λ (k : ℕ). stretch ws l.start k ≡ stretch ws l.start (l.len - 1) ++ (at ws (r.start - 1) ∷ [])) (sym e)
+        (rw (stretch_join ws l.start (l.len - 1) 1, f, stretch_one ws (r.start - 1)) refl)
 
-    all : Rising (by ws n m) (stretch ws lo a) → Merged (by ws n m) (stretch ws lo a) (stretch ws mid b) (stretch ws lo (a + b))
+    all : Rising (by ws n m) (words ws l) → Merged (by ws n m) (words ws l) (words ws r) (stretch ws l.start (l.len + r.len))
     all s =
-        let j : stretch ws lo (a + b) ≡ stretch ws lo a ++ stretch ws mid b = rw M.touch at (stretch_join ws lo a b) in
-        rw (j, front, stretch_first ws mid b M.some_right) (in_order (by_lawful ws n m) (stretch ws lo (a - 1)) (at ws (mid - 1)) (at ws mid) (stretch ws (mid + 1) (b - 1)) (rw front at s).ascending M.comes)
+        let j : stretch ws l.start (l.len + r.len) ≡ words ws l ++ words ws r = rw M.touch at (stretch_join ws l.start l.len r.len) in
+        rw (j, front, stretch_first ws r.start r.len M.some_right)
+        (in_order (by_lawful ws n m) (stretch ws l.start (l.len - 1)) (at ws (r.start - 1)) (at ws r.start) (stretch ws (r.start + 1) (r.len - 1))
+        (rw front at s).ascending M.comes)
 
 -- us after the merge, vs after the copy
-pub joins_merged : (ws us vs : List ℕ) (n m lo a mid b d : ℕ) → Near ws n m lo a mid b → Merges ws us n m lo a mid b (lo + n) d → Only us vs lo d → stretch vs lo d ≡ stretch us (lo + n) d
-    → Joins ws vs n m lo a mid b d
-joins_merged ws us vs n m lo a mid b d N M C E = record {
+pub joins_merged : (ws us vs : List ℕ) (n m : ℕ) (l r : Stretch) (d : ℕ) → Near ws n m l r → Merges ws us n m l r (l.start + n) d
+    → length vs ≡ length us → CopiedTo us vs (l.start + n) l.start d × SameBelow us vs l.start × SameFrom us vs (l.start + d) → Joins ws vs n m l r d
+joins_merged ws us vs n m l r d N M e C = record {
   few = M.few;
   kept = record {
-    kept_length = C.kept_length ∙ M.only.kept_length;
-    before = λ j p. C.before j p ∙ M.only.before j (omega arith);
-    between = λ j p q. C.after j (omega (arith, M.few)) ∙ M.only.before j q;
+    kept_length = e ∙ M.only.kept_length;
+    before = λ j p. C.1 j 0 p ∙ M.only.before j (omega arith);
+    between = λ j p q. C.2 j 0 (omega (arith, M.few)) ∙ M.only.before j q;
   };
-  merged = λ s. rw E M.merged;
+  merged = λ s. rw copied M.merged;
 }
+  where
+    copied : stretch vs l.start d ≡ stretch us (l.start + n) d
+    copied = stretch_moved vs us l.start (l.start + n) d (λ p h.
+        let k : l.start + p - l.start ≡ p = omega arith in
+        rw k at (C.0 (l.start + p) 0 (omega arith) (omega arith)))
 
 -- ---- the first of two runs
 
@@ -91,7 +101,7 @@ module _ (ws w1 : List ℕ) (n m lo k h g a : ℕ) (A : Area ws n m lo k) (e : h
     left_stays : (j : ℕ) → lo ≤ j → j < lo + a → at w2 j ≡ at w1 j
     left_stays j p q = S.kept.before j (omega (arith, R.few))
 
-    pub run_near : Near w2 n m lo a (lo + h) b
+    pub run_near : Near w2 n m (record { start = lo; len = a }) (record { start = lo + h; len = b })
     run_near = record {
       front = A.front;
       ordered = omega (arith, R.few);
@@ -101,7 +111,7 @@ module _ (ws w1 : List ℕ) (n m lo k h g a : ℕ) (A : Area ws n m lo k) (e : h
       right_ids = below_from w1 n (lo + h) g run_second.ids w2 (lo + h) b S.arranged.from;
     }
 
-    module _ (w3 : List ℕ) (d : ℕ) (J : Joins w2 w3 n m lo a (lo + h) b d) where
+    module _ (w3 : List ℕ) (d : ℕ) (J : Joins w2 w3 n m (record { start = lo; len = a }) (record { start = lo + h; len = b }) d) where
       few_all : a + b ≤ k
       few_all = omega (arith, R.few, S.few)
 

@@ -8,8 +8,8 @@ use Rattle.lists.specs.Sorted.{Ascending, first, none_left, one_list}
 use Rattle.language.specs.Ordered.{Before, before_self, order, order_equal, order_refl, order_reversed, order_trans}
 use Rattle.language.specs.Sorted.{sorted, sorted_ascending, sorted_from, sorted_has}
 use Rattle.language.specs.Term.{Term}
-use Rattle.language.specs.declared.Ordering.{Ordering}
-use Rattle.language.specs.declared.Ordering.TheVariants.{Less}
+use Rattle.std.specs.declared.cmp.Ordering.{Ordering}
+use Rattle.std.specs.declared.cmp.Ordering.TheVariants.{Less}
 use Rattle.sorting.specs.Arranged.{Arranged, Lawful}
 
 unfoldable pub keyed : (ℕ → Term) → ℕ → ℕ → Ordering

@@ -1,6 +1,8 @@
 -- What `sort` promises: for any words, whether it sorts, and then which ids are left of the k at the start of the work area.
 -- Assumes nothing.
-use Rattle.std.specs.Prelude.{List, map, ◌≡◌, refl, ◌+◌, ◌<◌, ◌≤◌, ℕ, drop, length, take}
+use Rattle.std.specs.Prelude.{Ok, Result, List, map, ◌≡◌, refl, ◌+◌, ◌<◌, ◌≤◌, ℕ, drop, length, take}
+use Rattle.broken.specs.declared.Broken.{Broken}
+use Rattle.broken.specs.Words.{broken}
 use Rattle.std.proofs.Common.{arith}
 use Rattle.lists.specs.Members.{Mem}
 use Rattle.lists.specs.Reads.{at}
@@ -12,8 +14,6 @@ use Rattle.sorting.specs.Ids.{Below, below_from, key_of}
 use Rattle.sorting.specs.Keyed.{arranged_keys}
 use Rattle.sorting.specs.Run.{Area, Ran}
 use Rattle.sorting.specs.Stretch.{stretch, stretch_part}
-use Rattle.sorting.specs.declared.Sorted.{Sorted}
-use Rattle.sorting.specs.declared.Sorted.TheVariants.{SortedTo, SortedBroken}
 
 -- d ids are left of the k: their keys are the keys of the k, sorted by node order, each once
 pub record Done (ws ws' : List ℕ) (n m k d : ℕ) : Type 0 where
@@ -22,25 +22,15 @@ pub record Done (ws ws' : List ℕ) (n m k d : ℕ) : Type 0 where
   pub keys : map (key_of ws n m) (take d (drop (size n m) ws')) ≡ sorted (map (key_of ws n m) (take k (drop (size n m) ws)))
   pub from : (z : ℕ) → Mem z (take d (drop (size n m) ws')) → Mem z (take k (drop (size n m) ws))
 
-pub record Sorts (ws ws' : List ℕ) (n m k : ℕ) (r : Sorted) : Type 0 where
+pub record Sorts (ws ws' : List ℕ) (n m k : ℕ) (r : Result ℕ Broken) : Type 0 where
   pub kept_length : length ws' ≡ length ws
   pub rows : take (size n m) ws' ≡ take (size n m) ws
-  pub ids : ((p : ℕ) → p < k → at ws (size n m + p) < n) → (d : ℕ) × (r ≡ SortedTo d)
-  pub no_id : (p : ℕ) → p < k → n ≤ at ws (size n m + p) → r ≡ SortedBroken
-  pub done : (d : ℕ) → r ≡ SortedTo d → Done ws ws' n m k d
-  pub broken : r ≡ SortedBroken → ws' ≡ ws
+  pub ids : ((p : ℕ) → p < k → at ws (size n m + p) < n) → (d : ℕ) × (r ≡ Ok d)
+  pub no_id : (p : ℕ) → p < k → n ≤ at ws (size n m + p) → r ≡ broken
+  pub done : (d : ℕ) → r ≡ Ok d → Done ws ws' n m k d
+  pub broken : r ≡ broken → ws' ≡ ws
 
 module _ (ws : List ℕ) (n m k : ℕ) where
-  pub sorts_broken : (Below ws n (size n m) k → ⊥) → Sorts ws ws n m k SortedBroken
-  sorts_broken f = record {
-    kept_length = refl;
-    rows = refl;
-    ids = λ h. absurd (f (record { each = h }));
-    no_id = λ p h g. refl;
-    done = λ d (e : SortedBroken ≡ SortedTo d). zero_one cc;
-    broken = λ e. refl;
-  }
-
   pub whole_area : length ws ≡ size n m + n + n → k ≤ n → Below ws n (size n m) k → Area ws n m (size n m) k
   whole_area e h b = record { front = omega arith; half = h; room = omega arith; ids = b }
 
@@ -57,12 +47,12 @@ module _ (ws : List ℕ) (n m k : ℕ) where
           from = rw (a, b) R.arranged.from;
         }
 
-    pub sorts_done : Sorts ws ws' n m k (SortedTo d)
+    pub sorts_done : Sorts ws ws' n m k (Ok d)
     sorts_done = record {
       kept_length = R.kept.kept_length;
       rows = take_same ws' ws (size n m) R.kept.kept_length R.kept.before;
       ids = λ h. (d, refl);
       no_id = λ p h g. absurd (omega (arith, A.ids.each p h));
-      done = λ e (q : SortedTo d ≡ SortedTo e). let i : d ≡ e = cc in rw (← i) run_done;
-      broken = λ (e : SortedTo d ≡ SortedBroken). zero_one cc;
+      done = λ e (q : Ok d ≡ Ok e). let i : d ≡ e = cc in rw (← i) run_done;
+      broken = λ (e : Ok d ≡ broken). zero_one cc;
     }

@@ -4,7 +4,7 @@ use Rattle.std.specs.Prelude.{List, [], ◌∷◌, ◌≢◌, ◌≡◌, refl, �
 use Rattle.std.proofs.Common.{◌∙◌, arith, length-set, get_or-set_other, get_or-set_same}
 use Rattle.rows.specs.Rows.{size}
 use Rattle.lists.specs.Reads.{at}
-use Rattle.language.specs.declared.Ordering.TheVariants.{Equal, Greater, Less}
+use Rattle.std.specs.declared.cmp.Ordering.TheVariants.{Equal, Greater, Less}
 use Rattle.sorting.specs.Arranged.{Arranged, arranged_none, arranged_one, arranged_two, left, level, none, over, right, under}
 use Rattle.sorting.specs.Ids.{Below, by, by_lawful}
 use Rattle.sorting.specs.Stretch.{stretch, stretch_none, stretch_one, stretch_two}

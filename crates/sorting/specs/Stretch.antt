@@ -1,15 +1,24 @@
 -- Stretches of words: the n words from a on, read by index, so that no lengths are asked; what stays where only one stretch is new.
 -- Assumes nothing.
 use Rattle.std.specs.Prelude.{List, [], ◌++◌, ◌∷◌, ◌⊎◌, ◌≡◌, refl, ◌+◌, ◌-◌, ◌<◌, ◌≤◌, suc, zero, ℕ, drop, length, set, take}
-use Rattle.std.proofs.Common.{append-nil, inl, inr, ◌∙◌, ap, sym, not-suc-le-zero, suc-add, zero-add, add-one, arith, length-set, get_or-set_other, get_or-set_same}
+use Rattle.std.proofs.Common.{inl, inr, ◌∙◌, ap, not-suc-le-zero, suc-add, zero-add, add-one, arith, length-set, get_or-set_other, get_or-set_same}
 use Rattle.std.proofs.Math.Numerals.{unary_clauses}
 use Rattle.lists.specs.Members.{Mem, here, mem-cases, mem-nil, there}
 use Rattle.lists.specs.Reads.{at}
 use Rattle.lists.specs.Parts.{part_is}
+use Rattle.sorting.specs.declared.Stretch.{Stretch}
 
 unfoldable pub stretch : List ℕ → ℕ → ℕ → List ℕ
 stretch ws a zero = []
 stretch ws a (suc n) = at ws a ∷ stretch ws (suc a) n
+
+-- the words of a stretch
+abbrev pub words : List ℕ → Stretch → List ℕ
+words ws s = stretch ws s.start s.len
+
+-- a stretch without its first word
+abbrev pub rest : Stretch → Stretch
+rest s = record { start = s.start + 1; len = s.len - 1 }
 
 -- the words of us from `from` on are those of ws from `to` on, n of them
 pub stretch_moved : (us ws : List ℕ) (from to n : ℕ) → ((p : ℕ) → p < n → at us (from + p) ≡ at ws (to + p)) → stretch us from n ≡ stretch ws to n
@@ -107,12 +116,3 @@ only_more ws us lo n t v e o = record {
   before = λ j h. get_or-set_other us t j v 0 (omega arith) ∙ o.before j h;
   after = λ j h. get_or-set_other us t j v 0 (omega arith) ∙ o.after j (omega arith);
 }
-
--- one more word copied
-pub copy_more : (ws us : List ℕ) (from to p : ℕ) → to + p < length us → Only ws us to p → stretch us to p ≡ stretch ws from p → to + p < from
-    → stretch (set us (to + p) (at us (from + p))) to (p + 1) ≡ stretch ws from (p + 1)
-copy_more ws us from to p h o e l =
-    let v : at us (from + p) ≡ at ws (from + p) = o.after (from + p) (omega arith) in
-    let a : stretch (set us (to + p) (at us (from + p))) to (p + 1) ++ [] ≡ stretch us to p ++ (at us (from + p) ∷ []) = stretch_more us [] to p (to + p) (at us (from + p)) refl h in
-    let b : stretch ws from (p + 1) ≡ stretch ws from p ++ (at ws (from + p) ∷ []) = stretch_join ws from p 1 ∙ ap (λ (l : List ℕ). stretch ws from p ++ l) (stretch_one ws (from + p)) in
-    sym (append-nil _) ∙ a ∙ rw (e, v) (sym b)

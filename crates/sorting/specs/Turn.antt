@@ -1,77 +1,66 @@
 -- One turn of a merge: of two stretches, of which one is not empty, the word that comes next, and what is left of them.
 -- Assumes nothing.
-use Rattle.std.specs.Prelude.{List, ◌∷◌, ◌≡◌, refl, ◌+◌, ◌-◌, ◌<◌, ◌≤◌, ℕ}
-use Rattle.std.proofs.Common.{arith}
+use Rattle.std.specs.Prelude.{List, ◌∷◌, ◌≡◌, ◌+◌, ◌<◌, ◌≤◌, ℕ, length}
+use Rattle.std.proofs.Common.{⊎_elim, arith}
 use Rattle.lists.specs.Reads.{at}
-use Rattle.language.specs.declared.Ordering.TheVariants.{Equal, Greater, Less}
+use Rattle.lists.specs.Tests.{lt_or}
+use Rattle.std.specs.declared.cmp.Ordering.{Ordering}
+use Rattle.std.specs.declared.cmp.Ordering.TheVariants.{Equal, Greater, Less}
+use Rattle.rows.specs.Rows.{size}
 use Rattle.sorting.specs.Arranged.{Merged, left, level, over, right, under}
-use Rattle.sorting.specs.Ids.{by}
-use Rattle.sorting.specs.Stretch.{stretch, stretch_first, stretch_none}
+use Rattle.sorting.specs.Ids.{Below, by}
+use Rattle.sorting.specs.Stretch.{rest, stretch_first, stretch_none, words}
+use Rattle.sorting.specs.declared.Stretch.{Stretch}
 use Rattle.sorting.specs.declared.Turn.{Turn}
 
--- the next word stands at r.from, and r.a words from r.i on and r.b words from r.j on are left
-pub record Turned (ws : List ℕ) (n m i a j b : ℕ) (r : Turn) : Type 0 where
-  pub left_end : r.i + r.a ≡ i + a
-  pub right_end : r.j + r.b ≡ j + b
-  pub left_less : r.a ≤ a
-  pub right_less : r.b ≤ b
-  pub fewer : r.a + r.b < a + b
-  pub inside : r.from < j + b
-  pub step : (zs : List ℕ) → Merged (by ws n m) (stretch ws r.i r.a) (stretch ws r.j r.b) zs → Merged (by ws n m) (stretch ws i a) (stretch ws j b) (at ws r.from ∷ zs)
+-- two stretches of ids, one behind the other, that wait to be merged; one of them has an id
+pub record Waiting (ws : List ℕ) (n m : ℕ) (l r : Stretch) : Type 0 where
+  pub front : size n m ≤ length ws
+  pub ordered : l.start + l.len ≤ r.start
+  pub room : r.start + r.len ≤ length ws
+  pub some : 0 < l.len + r.len
+  pub left_ids : Below ws n l.start l.len
+  pub right_ids : Below ws n r.start r.len
 
-module _ (ws : List ℕ) (n m i a j b : ℕ) where
-  pub turn_right : a ≡ 0 → 0 < a + b → Turned ws n m i a j b (record { from = j; i = i; a = a; j = j + 1; b = b - 1 })
-  turn_right e h = record {
-    left_end = refl;
-    right_end = omega arith;
-    left_less = omega arith;
-    right_less = omega arith;
-    fewer = omega arith;
-    inside = omega arith;
-    step = λ zs d. rw (stretch_none ws i a e, stretch_first ws j b (omega arith)) (right (rw (stretch_none ws i a e) at d));
+-- the first words of l and r are in the order o; if one of the two has no word, it comes last
+pub record Heads (ws : List ℕ) (n m : ℕ) (l r : Stretch) (o : Ordering) : Type 0 where
+  pub less : o ≡ Less → (0 < l.len) × (0 < r.len → by ws n m (at ws l.start) (at ws r.start) ≡ Less)
+  pub equal : o ≡ Equal → (0 < l.len) × (0 < r.len) × (by ws n m (at ws l.start) (at ws r.start) ≡ Equal)
+  pub greater : o ≡ Greater → (0 < r.len) × (0 < l.len → by ws n m (at ws l.start) (at ws r.start) ≡ Greater)
+
+-- t.left and t.right end where l and r do, and together they have fewer words
+pub record Shorter (l r : Stretch) (t : Turn) : Type 0 where
+  pub left_end : t.left.start + t.left.len ≡ l.start + l.len
+  pub right_end : t.right.start + t.right.len ≡ r.start + r.len
+  pub left_less : t.left.len ≤ l.len
+  pub right_less : t.right.len ≤ r.len
+  pub fewer : t.left.len + t.right.len < l.len + r.len
+  pub inside : t.from < r.start + r.len
+
+-- the word that comes next stands at t.from, and t.left and t.right are left
+pub record Turned (ws : List ℕ) (n m : ℕ) (l r : Stretch) (t : Turn) : Type 0 where
+  pub step : (zs : List ℕ) → Merged (by ws n m) (words ws t.left) (words ws t.right) zs
+      → Merged (by ws n m) (words ws l) (words ws r) (at ws t.from ∷ zs)
+
+module _ (ws : List ℕ) (n m : ℕ) (l r : Stretch) where
+  pub turn_less : 0 < l.len → (0 < r.len → by ws n m (at ws l.start) (at ws r.start) ≡ Less)
+      → Turned ws n m l r (record { from = l.start; left = rest l; right = r })
+  turn_less p e = record {
+    step = λ zs d. rw (stretch_first ws l.start l.len p) (⊎_elim
+        (λ (q : 0 < r.len). rw (stretch_first ws r.start r.len q) (under (e q) (rw (stretch_first ws r.start r.len q) at d)))
+        (λ (q : r.len ≤ 0). let z : r.len ≡ 0 = omega arith in rw (stretch_none ws r.start r.len z) (left (rw (stretch_none ws r.start r.len z) at d)))
+        (lt_or 0 r.len));
   }
 
-  pub turn_left : b ≡ 0 → 0 < a → i + a ≤ j → Turned ws n m i a j b (record { from = i; i = i + 1; a = a - 1; j = j; b = b })
-  turn_left e h l = record {
-    left_end = omega arith;
-    right_end = refl;
-    left_less = omega arith;
-    right_less = omega arith;
-    fewer = omega arith;
-    inside = omega arith;
-    step = λ zs d. rw (stretch_none ws j b e, stretch_first ws i a h) (left (rw (stretch_none ws j b e) at d));
+  pub turn_equal : 0 < l.len → 0 < r.len → by ws n m (at ws l.start) (at ws r.start) ≡ Equal
+      → Turned ws n m l r (record { from = l.start; left = rest l; right = rest r })
+  turn_equal p q e = record { step = λ zs d. rw (stretch_first ws l.start l.len p, stretch_first ws r.start r.len q) (level e d) }
+
+  pub turn_greater : 0 < r.len → (0 < l.len → by ws n m (at ws l.start) (at ws r.start) ≡ Greater)
+      → Turned ws n m l r (record { from = r.start; left = l; right = rest r })
+  turn_greater q e = record {
+    step = λ zs d. rw (stretch_first ws r.start r.len q) (⊎_elim
+        (λ (p : 0 < l.len). rw (stretch_first ws l.start l.len p) (over (e p) (rw (stretch_first ws l.start l.len p) at d)))
+        (λ (p : l.len ≤ 0). let z : l.len ≡ 0 = omega arith in rw (stretch_none ws l.start l.len z) (right (rw (stretch_none ws l.start l.len z) at d)))
+        (lt_or 0 l.len));
   }
-
-  module _ (p : 0 < a) (q : 0 < b) (l : i + a ≤ j) where
-    pub turn_less : by ws n m (at ws i) (at ws j) ≡ Less → Turned ws n m i a j b (record { from = i; i = i + 1; a = a - 1; j = j; b = b })
-    turn_less e = record {
-      left_end = omega arith;
-      right_end = refl;
-      left_less = omega arith;
-      right_less = omega arith;
-      fewer = omega arith;
-      inside = omega arith;
-      step = λ zs d. rw (stretch_first ws i a p, stretch_first ws j b q) (under e (rw (stretch_first ws j b q) at d));
-    }
-
-    pub turn_equal : by ws n m (at ws i) (at ws j) ≡ Equal → Turned ws n m i a j b (record { from = i; i = i + 1; a = a - 1; j = j + 1; b = b - 1 })
-    turn_equal e = record {
-      left_end = omega arith;
-      right_end = omega arith;
-      left_less = omega arith;
-      right_less = omega arith;
-      fewer = omega arith;
-      inside = omega arith;
-      step = λ zs d. rw (stretch_first ws i a p, stretch_first ws j b q) (level e d);
-    }
-
-    pub turn_greater : by ws n m (at ws i) (at ws j) ≡ Greater → Turned ws n m i a j b (record { from = j; i = i; a = a; j = j + 1; b = b - 1 })
-    turn_greater e = record {
-      left_end = refl;
-      right_end = omega arith;
-      left_less = omega arith;
-      right_less = omega arith;
-      fewer = omega arith;
-      inside = omega arith;
-      step = λ zs d. rw (stretch_first ws i a p, stretch_first ws j b q) (over e (rw (stretch_first ws i a p) at d));
-    }

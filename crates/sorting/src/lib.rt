@@ -9,35 +9,48 @@
 // A merge sort from the top down. A merge drops what is equal, so that a run is strictly ascending and needs no last pass.
 #![tactic(auto)]
 
-ghost use Rattle.std.specs.Prelude.{◌≡◌, true, ◌+◌, ◌-◌, ◌≤◌, ◌<◌, ◌^◌, length};
+ghost use Rattle.std.specs.Prelude.{◌≡◌, true, ◌+◌, ◌≤◌, ◌<◌, ◌^◌, length};
 ghost use Rattle.lists.specs.Reads.{at};
 ghost use Rattle.lists.specs.Tests.{Says};
 ghost use Rattle.rows.specs.Rows.{size};
-ghost use Rattle.sorting.specs.Stretch.{stretch, Only};
+ghost use Rattle.sorting.specs.Stretch.{rest};
 ghost use Rattle.sorting.specs.Ids.{by, Below};
-ghost use Rattle.sorting.specs.Turn.{Turned};
+ghost use Rattle.sorting.specs.Turn.{Waiting, Heads, Shorter, Turned};
 ghost use Rattle.sorting.specs.Merge.{Beside, Merges};
 ghost use Rattle.sorting.specs.Run.{Area, Ran};
 ghost use Rattle.sorting.specs.Join.{Near, Meet, Joins};
 ghost use Rattle.sorting.specs.Promise.{Sorts};
 
-use language::{Id, Ordering, wide};
+use broken::Broken;
+use language::Id;
+use std::cmp::Ordering;
 
-// How many ids are left; or that one of the words is no id.
+// Ids that stand one after another, `len` of them from `start` on.
 #[derive(Clone, Copy)]
-pub enum Sorted {
-    SortedTo(usize),
-    SortedBroken,
+struct Stretch {
+    start: usize,
+    len: usize,
 }
 
-// One turn of a merge: where the next id is, and what is left of the two stretches, a ids at i and b ids at j.
+impl Stretch {
+    // Without the first id.
+    fn rest(self) -> Stretch
+        requires { (0 < self.len) × (self.start + self.len < 2 ^ 64) }
+        ensures { result ≡ rest self }
+    {
+        Stretch {
+            start: self.start + 1,
+            len: self.len - 1,
+        }
+    }
+}
+
+// One turn of a merge: where the next id is, and what is left of the two stretches.
 #[derive(Clone, Copy)]
 struct Turn {
     from: usize,
-    i: usize,
-    a: usize,
-    j: usize,
-    b: usize,
+    left: Stretch,
+    right: Stretch,
 }
 
 // The order of the ids at i and j: that of their keys.
@@ -47,152 +60,91 @@ fn compare(ws: &[u32], n: usize, m: usize, i: usize, j: usize) -> Ordering
     ensures { result ≡ by ws.now n m (at ws.now i) (at ws.now j) }
 {
     let front = n + n + n + n + m + m;
-    let x = ws[i];
-    let y = ws[j];
-    let u = rows::key(&ws[..front], n, m, Id(x));
-    let v = rows::key(&ws[..front], n, m, Id(y));
-    u.node.order(v.node)
+    let a = rows::key_or_leaf(&ws[..front], n, m, Id(ws[i]));
+    let b = rows::key_or_leaf(&ws[..front], n, m, Id(ws[j]));
+    a.order(b)
 }
 
-// The next id is the first of the left stretch.
-fn take_left(i: usize, a: usize, j: usize, b: usize) -> Turn
-    requires { (0 < a) × (i + a ≤ j) }
-    ensures { result ≡ record { from = i; i = i + 1; a = a - 1; j = j; b = b } }
+// The order of the first ids of two stretches, of which one has an id: one without ids comes last.
+fn heads(ws: &[u32], n: usize, m: usize, left: Stretch, right: Stretch) -> Ordering
+    requires { Waiting ws.now n m left right }
+    ensures { Heads ws.now n m left right result }
 {
-    Turn {
-        from: i,
-        i: i + 1,
-        a: a - 1,
-        j,
-        b,
+    if left.len == 0 {
+        return Ordering::Greater;
     }
-}
-
-// The next id is the first of the right stretch.
-fn take_right(i: usize, a: usize, j: usize, b: usize) -> Turn
-    requires { (0 < b) × (j + b < 2 ^ 64) }
-    ensures { result ≡ record { from = j; i = i; a = a; j = j + 1; b = b - 1 } }
-{
-    Turn {
-        from: j,
-        i,
-        a,
-        j: j + 1,
-        b: b - 1,
+    if right.len == 0 {
+        return Ordering::Less;
     }
+    compare(ws, n, m, left.start, right.start)
 }
 
-// The two stretches begin with equal nodes: the next id is the left one, and the right one is passed over.
-fn take_both(i: usize, a: usize, j: usize, b: usize) -> Turn
-    requires { (0 < a) × (i + a ≤ j) × (0 < b) × (j + b < 2 ^ 64) }
-    ensures { result ≡ record { from = i; i = i + 1; a = a - 1; j = j + 1; b = b - 1 } }
+// Which id comes next, of those of two stretches. Of two ids with equal keys the right one is passed over.
+fn next(ws: &[u32], n: usize, m: usize, left: Stretch, right: Stretch) -> Turn
+    requires { Waiting ws.now n m left right }
+    ensures shorter { Shorter left right result }
+    ensures step { Turned ws.now n m left right result }
 {
-    Turn {
-        from: i,
-        i: i + 1,
-        a: a - 1,
-        j: j + 1,
-        b: b - 1,
+    match heads(ws, n, m, left, right) {
+        Ordering::Less => Turn {
+            from: left.start,
+            left: left.rest(),
+            right,
+        },
+        Ordering::Equal => Turn {
+            from: left.start,
+            left: left.rest(),
+            right: right.rest(),
+        },
+        Ordering::Greater => Turn {
+            from: right.start,
+            left,
+            right: right.rest(),
+        },
     }
 }
 
-// Which id comes next, of a ids at i and b ids at j.
-fn next(ws: &[u32], n: usize, m: usize, i: usize, a: usize, j: usize, b: usize) -> Turn
-    requires m_in_bounds { (size n m ≤ length ws.now) × (i + a ≤ j) × (j + b ≤ length ws.now) × (0 < a + b) }
-    requires below { Below ws.now n i a × Below ws.now n j b }
-    ensures { Turned ws.now n m i a j b result }
+// Merges two stretches into the words from `to` on, and answers how many words that are.
+fn merge(ws: &mut [u32], n: usize, m: usize, left: Stretch, right: Stretch, to: usize) -> usize
+    requires { Beside ws.old n m left right to }
+    ensures { Merges ws.old ws.new n m left right to result }
 {
-    if a == 0 {
-        return take_right(i, a, j, b);
-    }
-    if b == 0 {
-        return take_left(i, a, j, b);
-    }
-    match compare(ws, n, m, i, j) {
-        Ordering::Less => take_left(i, a, j, b),
-        Ordering::Equal => take_both(i, a, j, b),
-        Ordering::Greater => take_right(i, a, j, b),
-    }
-}
-
-// Merges a ids at lo and b ids at mid into the words from `to` on.
-fn merge(
-    ws: &mut [u32],
-    n: usize,
-    m: usize,
-    lo: usize,
-    a: usize,
-    mid: usize,
-    b: usize,
-    to: usize,
-) -> usize
-    requires { Beside ws.old n m lo a mid b to }
-    ensures { Merges ws.old ws.new n m lo a mid b to result }
-{
-    let mut i = lo;
-    let mut p = a;
-    let mut j = mid;
-    let mut q = b;
+    let mut l = left;
+    let mut r = right;
     let mut d: usize = 0;
-    while 0 < p + q {
-        let s = next(ws, n, m, i, p, j, q);
-        let from = s.from;
-        let v = ws[from];
-        ws[to + d] = v;
+    // Not a `for`: how many turns there are depends on how many ids have equal keys.
+    while 0 < l.len + r.len {
+        let turn = next(ws, n, m, l, r);
+        ws[to + d] = ws[turn.from];
         d += 1;
-        i = s.i;
-        p = s.a;
-        j = s.j;
-        q = s.b;
+        l = turn.left;
+        r = turn.right;
     }
     d
 }
 
-// Copies d words down.
-fn copy(ws: &mut [u32], from: usize, to: usize, d: usize)
-    requires { (to + d ≤ from) × (from + d ≤ length ws.old) }
-    ensures { Only ws.old ws.new to d × (stretch ws.new to d ≡ stretch ws.old from d) }
-{
-    let mut p: usize = 0;
-    while p < d {
-        let v = ws[from + p];
-        ws[to + p] = v;
-        p += 1;
-    }
-}
-
 // Whether the second run starts where the first ends and comes after it, so that nothing is to do.
-fn meets(ws: &[u32], n: usize, m: usize, lo: usize, a: usize, mid: usize, b: usize) -> bool
-    requires { Near ws.now n m lo a mid b }
-    ensures { result ≡ true → Meet ws.now n m lo a mid b }
+fn meets(ws: &[u32], n: usize, m: usize, left: Stretch, right: Stretch) -> bool
+    requires { Near ws.now n m left right }
+    ensures { result ≡ true → Meet ws.now n m left right }
 {
-    if lo + a < mid {
+    if left.len == 0 || right.len == 0 || left.start + left.len < right.start {
         return false;
     }
-    if a == 0 {
-        return false;
-    }
-    if b == 0 {
-        return false;
-    }
-    match compare(ws, n, m, mid - 1, mid) {
-        Ordering::Less => true,
-        Ordering::Equal => false,
-        Ordering::Greater => false,
-    }
+    compare(ws, n, m, right.start - 1, right.start) == Ordering::Less
 }
 
-// Makes one run at lo of a ids at lo and b ids at mid, with the words n further on to work in.
-fn join(ws: &mut [u32], n: usize, m: usize, lo: usize, a: usize, mid: usize, b: usize) -> usize
-    requires { Near ws.old n m lo a mid b }
-    ensures { Joins ws.old ws.new n m lo a mid b result }
+// Makes one run of two, where the first starts, with the words n further on to work in.
+fn join(ws: &mut [u32], n: usize, m: usize, left: Stretch, right: Stretch) -> usize
+    requires { Near ws.old n m left right }
+    ensures { Joins ws.old ws.new n m left right result }
 {
-    if meets(ws, n, m, lo, a, mid, b) {
-        return a + b;
+    if meets(ws, n, m, left, right) {
+        return left.len + right.len;
     }
-    let to = lo + n;
-    let d = merge(ws, n, m, lo, a, mid, b, to);
-    copy(ws, to, lo, d);
+    let to = left.start + n;
+    let d = merge(ws, n, m, left, right, to);
+    ws.copy_within(to..to + d, left.start);
     d
 }
 
@@ -206,10 +158,7 @@ fn sort_two(ws: &mut [u32], n: usize, m: usize, lo: usize) -> usize
         Ordering::Less => 2,
         Ordering::Equal => 1,
         Ordering::Greater => {
-            let x = ws[lo];
-            let y = ws[hi];
-            ws[lo] = y;
-            ws[hi] = x;
+            ws.swap(lo, hi);
             2
         }
     }
@@ -230,7 +179,13 @@ fn sort_run(ws: &mut [u32], n: usize, m: usize, lo: usize, k: usize) -> usize
     let mid = lo + h;
     let a = sort_run(ws, n, m, lo, h);
     let b = sort_run(ws, n, m, mid, k - h);
-    join(ws, n, m, lo, a, mid, b)
+    join(
+        ws,
+        n,
+        m,
+        Stretch { start: lo, len: a },
+        Stretch { start: mid, len: b },
+    )
 }
 
 // Whether the k words at base are ids.
@@ -238,24 +193,17 @@ fn are_ids(ws: &[u32], n: usize, base: usize, k: usize) -> bool
     requires { base + k ≤ length ws.now }
     ensures { Says result (Below ws.now n base k) }
 {
-    let mut p: usize = 0;
-    while p < k {
-        if wide(ws[base + p]) >= n {
-            return false;
-        }
-        p += 1;
-    }
-    true
+    ws[base..base + k].iter().all(|w| (*w as usize) < n)
 }
 
 // Sorts the k ids at the start of the work area by the order of their keys, and keeps one of those whose keys are equal.
-pub fn sort(ws: &mut [u32], n: usize, m: usize, k: usize) -> Sorted
+pub fn sort(ws: &mut [u32], n: usize, m: usize, k: usize) -> Result<usize, Broken>
     requires { (length ws.old ≡ size n m + n + n) × (k ≤ n) }
     ensures { Sorts ws.old ws.new n m k result }
 {
     let base = n + n + n + n + m + m;
-    if are_ids(ws, n, base, k) {
-        return Sorted::SortedTo(sort_run(ws, n, m, base, k));
+    if !are_ids(ws, n, base, k) {
+        return Err(Broken);
     }
-    Sorted::SortedBroken
+    Ok(sort_run(ws, n, m, base, k))
 }

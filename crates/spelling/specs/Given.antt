@@ -2,7 +2,7 @@
 -- than a node may have gives a node whose count says so, and a call refuses it by 5.
 -- Assumes nothing.
 use Rattle.std.specs.Prelude.{List, [], ◌∷◌, ◌++◌, ◌≡◌, ℕ, ◌+◌, ◌≤◌, ◌<◌, suc, length, take}
-use Rattle.std.proofs.Common.{◌∙◌, ap, sym, le_refl, arith, take_all, take-suc}
+use Rattle.std.proofs.Common.{◌∙◌, ap, sym, arith, take-suc}
 use Rattle.lists.specs.Reads.{at}
 use Rattle.language.specs.Struct.{node_of}
 use Rattle.language.specs.Term.{Term, grown, places}
@@ -22,9 +22,6 @@ pub record Filled (o p : ℕ) (ks : List ℕ) (i : ℕ) (x : Node) : Type 0 wher
   pub count : x.count ≡ i
   pub node : node_of x ≡ term o p (take i ks)
 
-pub filled_none : (o p : ℕ) (ks : List ℕ) (x : Node) → x.count ≡ 0 → node_of x ≡ term o p [] → Filled o p ks 0 x
-filled_none o p ks x c e = record { inside = omega arith; count = c; node = e }
-
 pub filled_more : (o p : ℕ) (ks : List ℕ) (i : ℕ) (x y : Node) → Filled o p ks i x → i < length ks → y.count ≡ x.count + 1
     → node_of y ≡ grown (node_of x) (at ks i) → Filled o p ks (i + 1) y
 unfolding grown
@@ -36,13 +33,3 @@ filled_more o p ks i x y f h c e = record {
   where
     longer : take i ks ++ (at ks i ∷ []) ≡ take (i + 1) ks
     longer = let e : suc i ≡ i + 1 = omega arith in sym (take-suc ks i 0 h) ∙ ap (λ (k : ℕ). take k ks) e
-
-pub filled_all : (o p : ℕ) (ks : List ℕ) (x : Node) → length ks ≤ places → Filled o p ks (length ks) x → GivenNode o p ks x
-filled_all o p ks x s f = record {
-  count = λ _. f.count;
-  node = λ _. f.node ∙ ap (term o p) (take_all (length ks) ks (le_refl _));
-  many = λ h. absurd (omega arith);
-}
-
-pub too_many : (o p : ℕ) (ks : List ℕ) (x : Node) → places < length ks → places < x.count → GivenNode o p ks x
-too_many o p ks x h k = record { count = λ s. absurd (omega arith); node = λ s. absurd (omega arith); many = λ _. k }

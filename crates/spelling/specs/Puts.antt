@@ -1,9 +1,9 @@
 -- What `put_node` promises: a node's words stand from a place on, the place behind them is answered, and every other word is as it was.
 -- Assumes nothing.
-use Rattle.std.specs.Prelude.{List, ◌≡◌, refl, ◌+◌, ◌≤◌, suc, ℕ, drop, length, set, take}
-use Rattle.std.proofs.Common.{◌∙◌, ap, arith}
+use Rattle.std.specs.Prelude.{List, [], ◌∷◌, ◌++◌, ◌≡◌, refl, ◌+◌, ◌-◌, ◌≤◌, suc, ℕ, drop, length, take}
+use Rattle.std.proofs.Common.{append_assoc, ◌∙◌, ap, sym, arith, drop-drop}
 use Rattle.std.proofs.Math.Seq.{length-sets}
-use Rattle.std.proofs.lemmas.List.Edits.{sets}
+use Rattle.std.proofs.lemmas.List.Edits.{sets, sets-eq}
 use Rattle.lists.specs.Sets.{sets_after, sets_before, sets_stand}
 use Rattle.language.specs.Struct.{Full, count_kids, node_of}
 use Rattle.language.specs.Term.{places, words}
@@ -20,24 +20,32 @@ pub record Puts (out : List ℕ) (p : ℕ) (x : Node) (r : ℕ) (out' : List ℕ
   pub stands : take (3 + x.count) (drop p out') ≡ words (node_of x)
   pub after : drop r out' ≡ drop r out
 
--- three words, then the children: the words of the node
-three : (out : List ℕ) (p : ℕ) (x : Node) → length (node_of x).kids ≡ x.count
-    → sets (set (set (set out p x.op.0) (p + 1) x.payload) (p + 2) x.count) (p + 3) (node_of x).kids ≡ sets out p (words (node_of x))
+-- the three words in front of the children
+abbrev front : Node → List ℕ
+front x = x.op.0 ∷ x.payload ∷ x.count ∷ []
+
+-- they go over what stands in the three places from p on, as ys
+module _ (out ys : List ℕ) (p : ℕ) (x : Node) (e : ys ≡ front x) (fits : p + 3 ≤ length out) where
+  abbrev over : List ℕ
+  over = take p out ++ (ys ++ drop (p + 3 - p) (drop p out))
+
+  front_is : over ≡ sets out p (front x)
+  front_is = let three : p + 3 - p ≡ 3 = omega arith in
+      rw (three, e, drop-drop 3 p out) (sym (sets-eq (front x) out p fits ∙ append_assoc (take p out) (front x) (drop (p + 3) out)))
+
+-- then the children: the words of the node
+three : (out : List ℕ) (p : ℕ) (x : Node) → length (node_of x).kids ≡ x.count → sets (sets out p (front x)) (p + 3) (node_of x).kids ≡ sets out p (words (node_of x))
 unfolding node_of
-three out p x e =
-    let one : p + 1 ≡ suc p = omega arith in
-    let two : p + 2 ≡ suc (suc p) = omega arith in
-    let all : p + 3 ≡ suc (suc (suc p)) = omega arith in
-    rw (e, one, two, all) refl
+three out p x e = let all : p + 3 ≡ suc (suc (suc p)) = omega arith in rw (e, all) refl
 
 -- how many words a node takes, by its count
 pub node_long : (x : Node) → Full x → x.count ≤ places → length (words (node_of x)) ≡ 3 + x.count
 node_long x f s = omega (arith, count_kids x f s)
 
 -- as the code writes it
-pub puts : (out out' : List ℕ) (p n : ℕ) (x : Node) → Full x → x.count ≤ places → p + length (words (node_of x)) ≤ length out → n ≡ length (words (node_of x))
-    → out' ≡ sets (set (set (set out p x.op.0) (p + 1) x.payload) (p + 2) x.count) (p + 3) (node_of x).kids → Puts out p x (p + n) out'
-puts out out' p n x f s h en e = record {
+pub puts : (out ys out' : List ℕ) (p n : ℕ) (x : Node) → Full x → x.count ≤ places → p + length (words (node_of x)) ≤ length out → n ≡ length (words (node_of x))
+    → (d : ys ≡ front x) (room : p + 3 ≤ length out) → out' ≡ sets (over out ys p x d room) (p + 3) (node_of x).kids → Puts out p x (p + n) out'
+puts out ys out' p n x f s h en d room e = record {
   exact = same;
   next = behind;
   count = omega (arith, long);
@@ -55,4 +63,4 @@ puts out out' p n x f s h en e = record {
     behind = ap (λ (k : ℕ). p + k) en
 
     same : out' ≡ sets out p (words (node_of x))
-    same = e ∙ three out p x (count_kids x f s)
+    same = e ∙ rw (front_is out ys p x d room) (three out p x (count_kids x f s))

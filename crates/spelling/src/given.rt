@@ -13,12 +13,9 @@ fn filled(op: u32, payload: u32, kids: &[u32]) -> Node
     requires { length kids.now ≤ places }
     ensures { Filled op payload kids.now (length kids.now) result }
 {
-    let n = kids.len();
     let mut node = Node::leaf(Op(op), payload);
-    let mut i: usize = 0;
-    while i < n {
-        node = node.with(Id(kids[i]));
-        i += 1;
+    for kid in kids {
+        node = node.with(Id(*kid));
     }
     node
 }
@@ -29,10 +26,8 @@ pub fn node_of(op: u32, payload: u32, kids: &[u32]) -> Node
 {
     if PLACES < kids.len() {
         return Node {
-            op: Op(op),
-            payload: payload,
             count: TOO_MANY,
-            kids: [Id(0); PLACES],
+            ..Node::leaf(Op(op), payload)
         };
     }
     filled(op, payload, kids)

@@ -15,14 +15,7 @@ ghost use Rattle.language.specs.Struct.{node_of};
 ghost use Rattle.spelling.specs.Puts.{Puts};
 ghost use Rattle.spelling.specs.Alone.{SpellsOne};
 
-use language::{Node, put_kids, wide};
-
-// One node in a list of its own: how many words it took, or that the list is too short for it.
-#[derive(Clone, Copy)]
-pub enum Spelled {
-    SpelledWords(usize),
-    SpelledLong,
-}
+use language::{Node, put_kids};
 
 mod given;
 
@@ -33,7 +26,7 @@ pub fn node_length(node: Node) -> usize
     requires { node.count ≤ places }
     ensures { (result ≡ length (words (node_of node))) × (result ≡ 3 + node.count) }
 {
-    3 + wide(node.count)
+    3 + node.count as usize
 }
 
 // A node's words from a place on; the answer is the place behind them.
@@ -42,22 +35,19 @@ pub fn put_node(out: &mut [u32], at: usize, node: Node) -> usize
     ensures { Puts out.old at node result out.new }
 {
     let n = node_length(node);
-    out[at] = node.op.0;
-    out[at + 1] = node.payload;
-    out[at + 2] = node.count;
+    out[at..at + 3].copy_from_slice(&[node.op.0, node.payload, node.count]);
     put_kids(out, at + 3, node);
     at + n
 }
 
 // One node's words at the start of a list. Where the list is too short for them it is left as it was.
-pub fn spell_one(list: &mut [u32], node: Node) -> Spelled
+pub fn spell_one(list: &mut [u32], node: Node) -> Option<usize>
     requires { node.count ≤ places }
     ensures { SpellsOne list.old node result list.new }
 {
     let n = node_length(node);
     if list.len() < n {
-        return Spelled::SpelledLong;
+        return None;
     }
-    let words = put_node(list, 0, node);
-    Spelled::SpelledWords(words)
+    Some(put_node(list, 0, node))
 }

@@ -2,8 +2,7 @@
 -- `quick_table`, whose passes are counted so that it computes; on graphs that calls make it is `table` (`quick` of price, Graphs).
 -- Assumes nothing.
 use mathlib.Core.List.{List, [], ◌++◌, ◌∷◌, flat_map}
-use Rattle.std.proofs.Math.Option.{Option, none, some}
-use Rattle.std.specs.Prelude.{ℕ}
+use Rattle.std.specs.Prelude.{Option, None, Some, ℕ}
 use Rattle.std.proofs.Math.Decide.{dec_le, dec_lt, ℕ_discrete}
 use Rattle.lists.specs.Keeps.{any, any_more, upto}
 use Rattle.lists.specs.Relabel.{relabel}
@@ -47,12 +46,12 @@ abbrev said : Graph → List ℕ → Said
 said g ws = record { graph = g; words = ws }
 
 abbrev or_nothing : Option ℕ → List ℕ
-or_nothing none = []
-or_nothing (some i) = i ∷ []
+or_nothing None = []
+or_nothing (Some i) = i ∷ []
 
 abbrev price_or_nothing : Option (Best ℕ) → List ℕ
-price_or_nothing none = []
-price_or_nothing (some b) = b.price ∷ []
+price_or_nothing None = []
+price_or_nothing (Some b) = b.price ∷ []
 
 -- a rebuild here takes fewer than 80 entries, or it answers nothing; so where the cases hold none was cut short (`run_rebuild` of closure)
 call : Graph → Call → Said

@@ -1,8 +1,7 @@
 -- What a graph holds, as document 01 has it ("What a graph may hold" and "The steps"), and how it is read. Ids count up from 0: an id is a place in `nodes`.
 -- The limits n and m are no part of it: no step reads them, they only say which adds are refused.
 -- Assumes nothing.
-use Rattle.std.specs.Prelude.{Bool, List, [], ◌∷◌, ℕ, length, get_or}
-use Rattle.std.proofs.Math.Option.{Option, none, some}
+use Rattle.std.specs.Prelude.{Bool, List, [], ◌∷◌, ℕ, length, get_or, Option, None, Some}
 use Rattle.lists.specs.Tests.{when}
 use Rattle.language.specs.Term.{Term, over_kids, same_term, term_at}
 
@@ -40,5 +39,5 @@ key_of g i = canon g.roots (node g.nodes i)
 
 -- the id that the table keeps for key k
 unfoldable pub kept : Term → List (Term × ℕ) → Option ℕ
-kept k [] = none
-kept k (e ∷ m) = when (same_term k e.0) (some e.1) (kept k m)
+kept k [] = None
+kept k (e ∷ m) = when (same_term k e.0) (Some e.1) (kept k m)

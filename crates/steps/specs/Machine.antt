@@ -1,8 +1,7 @@
 -- The steps, as document 01 has them ("The steps, from `src/egraph.rs`"): fresh, `lookup`, `add_uncanonical`, `add`, `union`, `rebuild`.
 -- First the micro-steps, each a change of one part of the graph; then the calls, which are put together from them.
 -- Assumes nothing.
-use Rattle.std.specs.Prelude.{◌≡◌, ◌≢◌, Bool, true, false, List, [], ◌∷◌, ◌++◌, map, reverse, ℕ, zero, suc, ◌+◌, ◌<◌, length, set}
-use Rattle.std.proofs.Math.Option.{Option, none, some}
+use Rattle.std.specs.Prelude.{◌≡◌, ◌≢◌, Bool, true, false, List, [], ◌∷◌, ◌++◌, map, reverse, ℕ, zero, suc, ◌+◌, ◌<◌, length, set, Option, None, Some}
 use Rattle.std.proofs.Math.Decide.{ℕ_discrete, dec_lt}
 use Rattle.lists.specs.Relabel.{relabel}
 use Rattle.language.specs.Term.{Term}
@@ -58,8 +57,8 @@ merge g stay lose = record {
 -- ---- lookup: the root of the id kept for the node with root children
 
 abbrev pub root_of : List ℕ → Option ℕ → Option ℕ
-root_of rs none = none
-root_of rs (some i) = some (root rs i)
+root_of rs None = None
+root_of rs (Some i) = Some (root rs i)
 
 unfoldable pub lookup : Graph → Term → Option ℕ
 lookup g x = root_of g.roots (kept (canon g.roots x) g.memo)
@@ -77,8 +76,8 @@ unfoldable pub grow : Graph → Term → Graph
 grow g x = let i = ids g in let k = canon g.roots x in marked (keyed (pushed (linked (stored g x) i k.kids) i) k i) false
 
 unfoldable pub add_by : Graph → Term → Option ℕ → Given
-add_by g x (some i) = record { graph = g; id = i }
-add_by g x none = record { graph = grow g x; id = ids g }
+add_by g x (Some i) = record { graph = g; id = i }
+add_by g x None = record { graph = grow g x; id = ids g }
 
 -- `add_uncanonical`: the kept id itself, which need not be a root
 unfoldable pub add_uncanonical : Graph → Term → Given
@@ -113,8 +112,8 @@ taken g i rest = keyed (popped g rest) (key_of g i) i
 
 -- if the key had an id before, that id is joined with this one
 unfoldable pub close : Graph → Option ℕ → ℕ → Joined
-close g none i = record { graph = g; answer = false }
-close g (some old) i = union g old i
+close g None i = record { graph = g; answer = false }
+close g (Some old) i = union g old i
 
 -- one entry of pending, which is handed over: call it with `g.pending`
 unfoldable pub step : Graph → List ℕ → Joined

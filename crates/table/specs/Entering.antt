@@ -1,14 +1,13 @@
 -- An id goes into the bucket of its key: the words that a push leaves hold the table with that id, and with no other change. What `enter` promises.
 -- Assumes nothing.
-use Rattle.std.specs.Prelude.{List, [], ◌∷◌, ◌≢◌, ◌⊎◌, ◌≡◌, refl, ◌<◌, ℕ, length}
+use Rattle.std.specs.Prelude.{Ok, Result, List, [], ◌∷◌, ◌≢◌, ◌⊎◌, ◌≡◌, refl, ◌<◌, ℕ, length}
+use Rattle.broken.specs.declared.Broken.{Broken}
 use Rattle.std.proofs.Common.{inl, inr, ◌∙◌, ap, sym, arith}
 use Rattle.lists.specs.Reads.{at, at_left, at_right, length_more}
 use Rattle.language.specs.Term.{Term, term_at}
 use Rattle.cells.specs.Changes.{Pushed}
 use Rattle.cells.specs.Pool.{push_l, row}
 use Rattle.cells.specs.Push.{FromPush, push_at, push_cases, push_from}
-use Rattle.cells.specs.declared.Change.{Change}
-use Rattle.cells.specs.declared.Change.TheVariants.{ChangeDone}
 use Rattle.table.specs.Buckets.{bucket_of}
 use Rattle.table.specs.Table.{Held, Table, not_held_free}
 
@@ -19,11 +18,11 @@ pub record Adds (L K : List (List ℕ)) (x : ℕ) : Type 0 where
   pub from : (y : ℕ) → Held K y → Held L y ⊎ (y ≡ x)
 
 -- For any words a push of x on bucket a; on a table that has neither x nor its key, the table with x.
-pub record Entered (ts ts' : List ℕ) (n a x : ℕ) (r : Change) : Type 0 where
+pub record Entered (ts ts' : List ℕ) (n a x : ℕ) (r : Result Unit Broken) : Type 0 where
   pub exact : Pushed ts ts' n n a x r
   pub law : (ks : List Term) (L : List (List ℕ)) → Table ts n ks L → x < length ks → (Held L x → ⊥)
       → ((y : ℕ) → Held L y → term_at ks y ≢ term_at ks x) → a ≡ bucket_of n (term_at ks x)
-      → (r ≡ ChangeDone) × Table ts' n ks (push_l L a x) × Adds L (push_l L a x) x
+      → (r ≡ Ok tt) × Table ts' n ks (push_l L a x) × Adds L (push_l L a x) x
 
 module _ (L : List (List ℕ)) (a x : ℕ) (ha : a < length L) where
   push_new : Held (push_l L a x) x
@@ -53,7 +52,7 @@ module _ (L : List (List ℕ)) (a x : ℕ) (ha : a < length L) where
     from = λ y h. from_push y h.here (push_from L a x ha h.list h.place h.inside);
   }
 
-pub entered : (ts ts' : List ℕ) (n a x : ℕ) (r : Change) → a < n → Pushed ts ts' n n a x r → Entered ts ts' n a x r
+pub entered : (ts ts' : List ℕ) (n a x : ℕ) (r : Result Unit Broken) → a < n → Pushed ts ts' n n a x r → Entered ts ts' n a x r
 entered ts ts' n a x r ha p = record {
   exact = p;
   law = λ ks L t hx out new e.

@@ -1,6 +1,8 @@
 -- An id goes out of the bucket of its key, if it is there: the words hold the table without that id, and with no other change. What `leave` promises.
 -- Assumes nothing.
-use Rattle.std.specs.Prelude.{List, ◌≢◌, ◌⊎◌, ◌≡◌, ◌-◌, ◌<◌, ◌≤◌, suc, ℕ, length}
+use Rattle.std.specs.Prelude.{Bool, Ok, Result, false, true, List, ◌≢◌, ◌⊎◌, ◌≡◌, ◌-◌, ◌<◌, ◌≤◌, suc, ℕ, length}
+use Rattle.broken.specs.declared.Broken.{Broken}
+use Rattle.broken.specs.Words.{broken}
 use Rattle.std.proofs.Common.{inl, inr, ⊎_elim, ◌∙◌, ap, subst, sym, arith}
 use Rattle.lists.specs.Reads.{at}
 use Rattle.lists.specs.Tests.{lt_or, zero_one}
@@ -9,8 +11,6 @@ use Rattle.cells.specs.Cuts.{Removed}
 use Rattle.cells.specs.Free.{free_removed}
 use Rattle.cells.specs.Pool.{Apart, Free, cut, remove_l, row}
 use Rattle.cells.specs.Remove.{cut_left, cut_length, cut_right, remove_cases, remove_from}
-use Rattle.cells.specs.declared.Cut.{Cut}
-use Rattle.cells.specs.declared.Cut.TheVariants.{CutDone, CutAbsent, CutBroken}
 use Rattle.table.specs.Buckets.{bucket_of}
 use Rattle.table.specs.Standing.{Stands}
 use Rattle.table.specs.Table.{Held, Table, free_not_held, held_home, held_or}
@@ -28,12 +28,12 @@ pub record Without (ts' : List ℕ) (n : ℕ) (ks : List Term) (L : List (List �
   pub drops : Drops L lists x
 
 -- For any words a removal of x from bucket a. On a table `law` speaks of both cases at once, whether x was held or not; `done` and `absent` tell them apart.
-pub record Departed (ts ts' : List ℕ) (n a x : ℕ) (r : Cut) : Type 0 where
+pub record Departed (ts ts' : List ℕ) (n a x : ℕ) (r : Result Bool Broken) : Type 0 where
   pub exact : Removed ts ts' n n a x r
   pub law : (ks : List Term) (L : List (List ℕ)) → Table ts n ks L → a ≡ bucket_of n (term_at ks x) → Without ts' n ks L x
-  pub done : (ks : List Term) (L : List (List ℕ)) → Table ts n ks L → a ≡ bucket_of n (term_at ks x) → Held L x → r ≡ CutDone
-  pub absent : (ks : List Term) (L : List (List ℕ)) → Table ts n ks L → a ≡ bucket_of n (term_at ks x) → (Held L x → ⊥) → (r ≡ CutAbsent) × (ts' ≡ ts)
-  pub sound : (ks : List Term) (L : List (List ℕ)) → Table ts n ks L → a ≡ bucket_of n (term_at ks x) → r ≢ CutBroken
+  pub done : (ks : List Term) (L : List (List ℕ)) → Table ts n ks L → a ≡ bucket_of n (term_at ks x) → Held L x → r ≡ Ok true
+  pub absent : (ks : List Term) (L : List (List ℕ)) → Table ts n ks L → a ≡ bucket_of n (term_at ks x) → (Held L x → ⊥) → (r ≡ Ok false) × (ts' ≡ ts)
+  pub sound : (ks : List Term) (L : List (List ℕ)) → Table ts n ks L → a ≡ bucket_of n (term_at ks x) → r ≢ broken
 
 module _ (L : List (List ℕ)) (a q x : ℕ) (ha : a < length L) (hq : q < length (row L a)) (apart : Apart L) (e : at (row L a) q ≡ x) where
   remove_old : (y : ℕ) → Held L y → y ≢ x → Held (remove_l L a q) y
@@ -69,12 +69,12 @@ module _ (L : List (List ℕ)) (a q x : ℕ) (ha : a < length L) (hq : q < lengt
 none_drops : (L : List (List ℕ)) (x : ℕ) → (Held L x → ⊥) → Drops L L x
 none_drops L x f = record { gone = f; stays = λ y h ne. h; from = λ y h. h }
 
-module _ (ts ts' : List ℕ) (n a x : ℕ) (r : Cut) (ha : a < n) (p : Removed ts ts' n n a x r) where
+module _ (ts ts' : List ℕ) (n a x : ℕ) (r : Result Bool Broken) (ha : a < n) (p : Removed ts ts' n n a x r) where
   module _ (ks : List Term) (L : List (List ℕ)) (t : Table ts n ks L) (home : a ≡ bucket_of n (term_at ks x)) where
     stands : Held L x → Stands (row L a) x
     stands h = rw home (held_home ts n ks L t x h)
 
-    held_out : Held L x → (r ≡ CutDone) × Without ts' n ks L x
+    held_out : Held L x → (r ≡ Ok true) × Without ts' n ks L x
     held_out h =
         let s = stands h in
         let q = p.law L s.place t.pool s.inside s.here in
@@ -94,7 +94,7 @@ module _ (ts ts' : List ℕ) (n a x : ℕ) (r : Cut) (ha : a < n) (p : Removed t
           },
         )
 
-    absent_out : (Held L x → ⊥) → (r ≡ CutAbsent) × (ts' ≡ ts)
+    absent_out : (Held L x → ⊥) → (r ≡ Ok false) × (ts' ≡ ts)
     absent_out f = p.none L t.pool (λ i l e. f (record { list = a; place = i; inside = l; here = e }))
 
     law_out : Without ts' n ks L x
@@ -104,7 +104,7 @@ module _ (ts ts' : List ℕ) (n a x : ℕ) (r : Cut) (ha : a < n) (p : Removed t
         go (inl h) = (held_out h).1
         go (inr f) = record { lists = L; table = rw (absent_out f).1 t; drops = none_drops L x f }
 
-    sound_out : r ≢ CutBroken
+    sound_out : r ≢ broken
     sound_out e = go (held_or ts n ks L t x)
       where
         go : Held L x ⊎ (Held L x → ⊥) → ⊥

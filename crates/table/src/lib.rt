@@ -21,25 +21,10 @@ ghost use Rattle.table.specs.Asking.{Answers};
 ghost use Rattle.table.specs.Entering.{Entered};
 ghost use Rattle.table.specs.Leaving.{Departed};
 
+use broken::Broken;
 use language::{Id, Node};
 
 const WORDS: u64 = 4294967296;
-
-// The id in the table that has a key, none, or words that no calls could have produced.
-#[derive(Clone, Copy)]
-pub enum Asked {
-    AskedAt(Id),
-    AskedNone,
-    AskedBroken,
-}
-
-// Whether the key of an id is the one that is looked for.
-#[derive(Clone, Copy)]
-enum Compared {
-    ComparedSame,
-    ComparedOther,
-    ComparedBroken,
-}
 
 // In which of n buckets a key is kept: the hash, scaled down from all words to n.
 pub fn bucket(node: Node, n: usize) -> usize
@@ -51,59 +36,48 @@ pub fn bucket(node: Node, n: usize) -> usize
     r as usize
 }
 
-fn compare(rows: &[u32], n: usize, m: usize, id: Id, node: Node) -> Compared
+// Whether the key of an id is the one that is looked for.
+fn compare(rows: &[u32], n: usize, m: usize, id: Id, node: Node) -> Result<bool, Broken>
     requires { (length rows.now ≡ size n m) × (id.0 < n) × (node.count ≤ places) }
     ensures { Compares rows.now n m id.0 (node_of node) result }
 {
-    let f = rows::key(rows, n, m, id);
-    let out = f.out;
-    match out {
-        rows::Fetch::FetchBroken => Compared::ComparedBroken,
-        rows::Fetch::FetchDone => {
-            let key = f.node;
-            if key.same(node) {
-                return Compared::ComparedSame;
-            }
-            Compared::ComparedOther
-        }
-    }
+    let key = rows::key(rows, n, m, id)?;
+    Ok(key.same(node))
 }
 
 // The id in one bucket that has a key, from the bucket's end.
-fn seek(ts: &[u32], rows: &[u32], n: usize, m: usize, bucket: usize, node: Node) -> Asked
+fn seek(
+    ts: &[u32],
+    rows: &[u32],
+    n: usize,
+    m: usize,
+    bucket: usize,
+    node: Node,
+) -> Result<Option<Id>, Broken>
     requires room { Room ts.now n n }
     requires rows_len { (length rows.now ≡ size n m) × (bucket < n) × (node.count ≤ places) }
     ensures { Sought ts.now rows.now n m bucket (node_of node) result }
 {
-    let mut left = cells::len(ts, n, bucket);
-    if left > n {
-        return Asked::AskedBroken;
+    let size = cells::len(ts, n, bucket);
+    if size > n {
+        return Err(Broken);
     }
     let mut cur = cells::last(ts, n, bucket);
-    while left > 0 {
+    for passed in 0..size {
         if cur >= n {
-            return Asked::AskedBroken;
+            return Err(Broken);
         }
         let id = Id(cur as u32);
-        let c = compare(rows, n, m, id, node);
-        match c {
-            Compared::ComparedBroken => {
-                return Asked::AskedBroken;
-            }
-            Compared::ComparedSame => {
-                return Asked::AskedAt(id);
-            }
-            Compared::ComparedOther => {
-                cur = cells::link(ts, n, n, cur);
-                left -= 1;
-            }
+        if compare(rows, n, m, id, node)? {
+            return Ok(Some(id));
         }
+        cur = cells::link(ts, n, n, cur);
     }
-    Asked::AskedNone
+    Ok(None)
 }
 
 // The id in the table whose key is this node.
-pub fn ask(ts: &[u32], rows: &[u32], n: usize, m: usize, node: Node) -> Asked
+pub fn ask(ts: &[u32], rows: &[u32], n: usize, m: usize, node: Node) -> Result<Option<Id>, Broken>
     requires room { Room ts.now n n }
     requires rows_len { (length rows.now ≡ size n m) × (1 ≤ n) × (n ≤ 65536) × (node.count ≤ places) }
     ensures { Answers ts.now rows.now n m (node_of node) result }
@@ -113,7 +87,7 @@ pub fn ask(ts: &[u32], rows: &[u32], n: usize, m: usize, node: Node) -> Asked
 }
 
 // Puts an id, which is in no bucket, into the bucket of its key.
-pub fn enter(ts: &mut [u32], n: usize, bucket: usize, id: Id) -> cells::Change
+pub fn enter(ts: &mut [u32], n: usize, bucket: usize, id: Id) -> Result<(), Broken>
     requires room { Room ts.old n n }
     requires bucket_lt_n { (bucket < n) × (id.0 < n) }
     ensures { Entered ts.old ts.new n bucket id.0 result }
@@ -122,7 +96,7 @@ pub fn enter(ts: &mut [u32], n: usize, bucket: usize, id: Id) -> cells::Change
 }
 
 // Takes an id out of the bucket of its key, if it is there.
-pub fn leave(ts: &mut [u32], n: usize, bucket: usize, id: Id) -> cells::Cut
+pub fn leave(ts: &mut [u32], n: usize, bucket: usize, id: Id) -> Result<bool, Broken>
     requires room { Room ts.old n n }
     requires bucket_lt_n { (bucket < n) × (id.0 < n) }
     ensures { Departed ts.old ts.new n bucket id.0 result }

@@ -1,7 +1,9 @@
 -- Entries taken until none is pending. What `drain_within` promises, the invariant of its loop, and one law for each way out.
 -- Assumes nothing.
-use Rattle.std.specs.Prelude.{false, true, List, [], ◌⊎◌, ◌≡◌, refl, ◌+◌, ◌-◌, ◌<◌, ◌≤◌, ℕ, length}
-use Rattle.std.proofs.Common.{inl, inr, subst, sym, arith}
+use Rattle.std.specs.Prelude.{Bool, None, Ok, Option, Result, Some, false, true, List, [], ◌⊎◌, ◌≡◌, refl, ◌+◌, ◌-◌, ◌<◌, ◌≤◌, ℕ, length}
+use Rattle.broken.specs.declared.Broken.{Broken}
+use Rattle.broken.specs.Words.{broken}
+use Rattle.std.proofs.Common.{inl, inr, ap, subst, sym, arith}
 use Rattle.lists.specs.Tests.{zero_one}
 use Rattle.closure.specs.Closed.{step_unclean}
 use Rattle.steps.specs.Graph.{Graph}
@@ -16,9 +18,8 @@ use Rattle.layout.specs.View.{View, view}
 use Rattle.layout.specs.declared.Head.{Head}
 use Rattle.taking.specs.Entry.{EntrySays, Open}
 use Rattle.taking.specs.declared.Drained.{Drained}
-use Rattle.taking.specs.declared.Drained.TheVariants.{DrainedBroken, DrainedTo}
-use Rattle.taking.specs.declared.Entry.{Entry}
-use Rattle.taking.specs.declared.Entry.TheVariants.{EntryBroken, EntryNone, EntryOne}
+use Rattle.uniting.specs.Says.{united}
+use Rattle.uniting.specs.declared.United.{United}
 use Rattle.uniting.specs.Near.{NearIds, inside_near, near_then, view_near}
 
 -- a graph that a rebuild may start from: unclean, or with nothing pending
@@ -28,18 +29,18 @@ pub record Startable (us : List (ℕ × ℕ)) (g : Graph) : Type 0 where
   pub soft : (g.clean ≡ false) ⊎ (g.pending ≡ [])
 
 -- the graph that is left, with nothing pending: z is the rebuilt graph, once it is marked clean
-pub record Emptied (us : List (ℕ × ℕ)) (u : ℕ) (z : Graph) (y t : ℕ) (v : View) (r : Drained) : Type 0 where
+pub record Emptied (us : List (ℕ × ℕ)) (u : ℕ) (z : Graph) (y t : ℕ) (v : View) (r : Result Drained Broken) : Type 0 where
   pub head : Head
-  pub answer : r ≡ DrainedTo head y t
+  pub answer : r ≡ Ok (record { head = head; yes = y; taken = t })
   pub graph : Graph
   pub rebuilt : z ≡ marked graph true
   pub start : Startable us graph
   pub empty : graph.pending ≡ []
   pub holds : HoldsAt head u v graph
 
-pub record DrainSays (h : Head) (fuel : ℕ) (ws : List ℕ) (r : Drained) (ws' : List ℕ) : Type 0 where
+pub record DrainSays (h : Head) (fuel : ℕ) (ws : List ℕ) (r : Result Drained Broken) (ws' : List ℕ) : Type 0 where
   pub inside : Inside h.n h.m ws ws'
-  pub range : (k : Head) (y t : ℕ) → r ≡ DrainedTo k y t → NearIds (length ws) h k
+  pub range : (d : Drained) → r ≡ Ok d → NearIds (length ws) h d.head
   pub sound : (g : Graph) (u : ℕ) (us : List (ℕ × ℕ)) → HoldsAt h u (view h.n h.m ws) g → Startable us g
       → (y t : ℕ) (z : Graph) → Rebuild g y t z → t < fuel → Emptied us u z y t (view h.n h.m ws') r
 
@@ -73,6 +74,10 @@ going_start h fuel ws ok = record {
   sound = λ g u us H S y t z R l. record { graph = g; holds = H; start = S; yes_left = y; left = t; rest = R; yes_is = omega arith; taken_is = omega arith };
 }
 
+count_low : (b : Bool) → count b ≤ 1
+count_low true = omega arith
+count_low false = omega arith
+
 -- a graph with an entry left is open
 opened : {us : List (ℕ × ℕ)} {g : Graph} → Startable us g → (g.pending ≡ [] → ⊥) → Open us g
 opened {us} {g} S ne = go S.soft
@@ -93,14 +98,14 @@ module _ (h : Head) (fuel : ℕ) (ws₀ : List ℕ) (k : Head) (ws : List ℕ) (
   pub going_ok : HeadOk (length ws) k
   going_ok = subst (λ (n : ℕ). HeadOk n k) (sym G.inside.size) G.near.near.ok
 
-  pub drain_spent : left ≡ 0 → DrainSays h fuel ws₀ DrainedBroken ws
+  pub drain_spent : left ≡ 0 → DrainSays h fuel ws₀ broken ws
   drain_spent e = record {
     inside = G.inside;
-    range = λ s y t q. zero_one cc;
+    range = λ d q. zero_one cc;
     sound = λ g u us H S y t z R l. absurd (let r = (G.sound g u us H S y t z R l).taken_is in let s = G.spent in omega arith);
   }
 
-  module _ (ws1 : List ℕ) (r : Entry) (E : EntrySays k ws r ws1) where
+  module _ (ws1 : List ℕ) (r : Result (Option United) Broken) (E : EntrySays k ws r ws1) where
     inside1 : Inside h.n h.m ws₀ ws1
     inside1 = inside_then G.inside (inside_near G.near E.inside)
 
@@ -108,7 +113,7 @@ module _ (h : Head) (fuel : ℕ) (ws₀ : List ℕ) (k : Head) (ws : List ℕ) (
     seen u g H = subst (λ (v : View). HoldsAt k u v g) (sym (view_near G.near ws)) H
 
     -- nothing is pending: what is reached is the end
-    at_end : (us : List (ℕ × ℕ)) (u : ℕ) (g z : Graph) (yl tl : ℕ) → HoldsAt k u (view h.n h.m ws) g → Startable us g → Rebuild g yl tl z → r ≡ EntryNone
+    at_end : (us : List (ℕ × ℕ)) (u : ℕ) (g z : Graph) (yl tl : ℕ) → HoldsAt k u (view h.n h.m ws) g → Startable us g → Rebuild g yl tl z → r ≡ Ok None
         → (yl ≡ 0) × (tl ≡ 0) × (z ≡ marked g true) × (g.pending ≡ []) × HoldsAt k u (view h.n h.m ws1) g
     at_end us u g z yl tl H S (done e) f =
         (refl, refl, refl, e, subst (λ (w : List ℕ). HoldsAt k u (view h.n h.m w) g) (sym (E.none g u (seen u g H) e).1) H)
@@ -117,39 +122,45 @@ module _ (h : Head) (fuel : ℕ) (ws₀ : List ℕ) (k : Head) (ws : List ℕ) (
         let q = s.1 in
         zero_one cc
 
-    pub drain_done : r ≡ EntryNone → DrainSays h fuel ws₀ (DrainedTo k yes taken) ws1
+    abbrev pub drained : Drained
+    drained = record { head = k; yes = yes; taken = taken }
+
+    pub drain_done : r ≡ Ok None → DrainSays h fuel ws₀ (Ok drained) ws1
     drain_done e = record {
       inside = inside1;
-      range = λ s y t q. let z : k ≡ s = cc in subst (λ (x : Head). NearIds (length ws₀) h x) z G.near;
+      range = λ d q. let z : drained ≡ d = cc in subst (λ (x : Drained). NearIds (length ws₀) h x.head) z G.near;
       sound = λ g u us H S y t z R l.
           let p = G.sound g u us H S y t z R l in
           let a = at_end us u p.graph z p.yes_left p.left p.holds p.start p.rest e in
           let ey : yes ≡ y = omega (arith, p.yes_is, a.0) in
           let et : taken ≡ t = omega (arith, p.taken_is, a.1) in
-          record { head = k; answer = λ i. DrainedTo k (ey i) (et i); graph = p.graph; rebuilt = a.2; start = p.start; empty = a.3; holds = a.4 };
+          record { head = k; answer = λ i. Ok (record { head = k; yes = ey i; taken = et i }); graph = p.graph; rebuilt = a.2; start = p.start; empty = a.3; holds = a.4 };
     }
 
     -- never broken on words that hold a graph
-    answered : {A : Type 0} (us : List (ℕ × ℕ)) (u : ℕ) (g z : Graph) (yl tl : ℕ) → HoldsAt k u (view h.n h.m ws) g → Startable us g → Rebuild g yl tl z → r ≡ EntryBroken → A
+    answered : {A : Type 0} (us : List (ℕ × ℕ)) (u : ℕ) (g z : Graph) (yl tl : ℕ) → HoldsAt k u (view h.n h.m ws) g → Startable us g → Rebuild g yl tl z → r ≡ broken → A
     answered us u g z yl tl H S (done e) f = let q = (E.none g u (seen u g H) e).0 in zero_one cc
     answered us u g z yl tl H S (more ne R) f =
         let s = E.some g u us (seen u g H) (opened S ne) ne in
         let q = s.1 in
         zero_one cc
 
-    pub drain_broken : r ≡ EntryBroken → DrainSays h fuel ws₀ DrainedBroken ws1
+    pub drain_broken : r ≡ broken → DrainSays h fuel ws₀ broken ws1
     drain_broken e = record {
       inside = inside1;
-      range = λ s y t q. zero_one cc;
+      range = λ d q. zero_one cc;
       sound = λ g u us H S y t z R l.
           let p = G.sound g u us H S y t z R l in
           answered us u p.graph z p.yes_left p.left p.holds p.start p.rest e;
     }
 
     -- one entry more
-    module _ (s : Head) (d : ℕ) (e : r ≡ EntryOne s d) where
+    module _ (s : United) (e : r ≡ Ok (Some s)) where
+      abbrev d : ℕ
+      d = count s.joined
+
       stepped : (us : List (ℕ × ℕ)) (u : ℕ) (g z : Graph) (y t yl tl : ℕ) → HoldsAt k u (view h.n h.m ws) g → Startable us g → Rebuild g yl tl z
-          → yes + yl ≡ y → taken + tl ≡ t → Reached us u z y t s (view h.n h.m ws1) (yes + d) (taken + 1)
+          → yes + yl ≡ y → taken + tl ≡ t → Reached us u z y t s.head (view h.n h.m ws1) (yes + d) (taken + 1)
       stepped us u g z y t yl tl H S (done q) ey et =
           let f = (E.none g u (seen u g H) q).0 in
           zero_one cc
@@ -157,11 +168,12 @@ module _ (h : Head) (fuel : ℕ) (ws₀ : List ℕ) (k : Head) (ws : List ℕ) (
           let O = opened S ne in
           let a = E.some g u us (seen u g H) O ne in
           let f = a.1 in
-          let p : a.0 ≡ s = cc in
-          let q : count (step g g.pending).answer ≡ d = cc in
+          let same : united (step g g.pending).answer a.0 ≡ s = cc in
+          let p : a.0 ≡ s.head = ap (λ (x : United). x.head) same in
+          let q : count (step g g.pending).answer ≡ d = ap (λ (x : United). count x.joined) same in
           record {
             graph = (step g g.pending).graph;
-            holds = subst (λ (v : View). HoldsAt s u v (step g g.pending).graph) (view_near G.near ws1)
+            holds = subst (λ (v : View). HoldsAt s.head u v (step g g.pending).graph) (view_near G.near ws1)
                 (subst (λ (x : Head). HoldsAt x u (view k.n k.m ws1) (step g g.pending).graph) p a.2);
             start = after O ne;
             yes_left = y';
@@ -171,14 +183,15 @@ module _ (h : Head) (fuel : ℕ) (ws₀ : List ℕ) (k : Head) (ws : List ℕ) (
             taken_is = omega arith;
           }
 
-      pub going_on : 0 < left → Going h fuel ws₀ s ws1 (left - 1) (yes + d) (taken + 1)
+      pub going_on : 0 < left → Going h fuel ws₀ s.head ws1 (left - 1) (yes + count s.joined) (taken + 1)
       going_on some =
-          let b = E.range s d e in
+          let b = E.range s e in
+          let low : d ≤ 1 = count_low s.joined in
           record {
             inside = inside1;
-            near = near_then G.near (subst (λ (n : ℕ). NearIds n k s) G.inside.size b.1);
+            near = near_then G.near (subst (λ (n : ℕ). NearIds n k s.head) G.inside.size b);
             spent = omega (arith, G.spent);
-            few = omega (arith, G.few, b.0);
+            few = omega (arith, G.few);
             sound = λ g u us H S y t z R l.
                 let p = G.sound g u us H S y t z R l in
                 stepped us u p.graph z y t p.yes_left p.left p.holds p.start p.rest p.yes_is p.taken_is;

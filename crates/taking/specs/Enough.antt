@@ -1,6 +1,7 @@
 -- How many entries a rebuild takes, at most: a number that the head tells, so that the loop ends on any words and is never cut short on words that hold a graph.
 -- Assumes nothing.
-use Rattle.std.specs.Prelude.{true, List, [], ◌≡◌, refl, ◌*◌, ◌+◌, ◌<◌, ◌≤◌, ℕ, length}
+use Rattle.std.specs.Prelude.{Ok, Result, true, List, [], ◌≡◌, refl, ◌*◌, ◌+◌, ◌<◌, ◌≤◌, ℕ, length}
+use Rattle.broken.specs.declared.Broken.{Broken}
 use Rattle.std.proofs.Common.{subst, mul-le-mul, mul-le-mul_left, arith}
 use Rattle.steps.specs.Classes.{number_of_classes}
 use Rattle.steps.specs.Graph.{Graph, root}
@@ -17,7 +18,6 @@ use Rattle.layout.specs.declared.Head.{Head}
 use Rattle.taking.specs.Drain.{DrainSays, Emptied, Startable}
 use Rattle.taking.specs.Sizes.{parents_pending, parents_size}
 use Rattle.taking.specs.declared.Drained.{Drained}
-use Rattle.taking.specs.declared.Drained.TheVariants.{DrainedTo}
 use Rattle.uniting.specs.Near.{NearIds}
 
 -- an entry of pending stands for as many ids as there are places, or for one; and each merge pushes no more than all places
@@ -53,23 +53,23 @@ measure_low {h} {u} {v} {g} H =
 -- ---- what `drain` promises
 
 -- the graph g is rebuilt, but for the mark
-pub record Rebuilds (us : List (ℕ × ℕ)) (u : ℕ) (g : Graph) (v : View) (r : Drained) : Type 0 where
+pub record Rebuilds (us : List (ℕ × ℕ)) (u : ℕ) (g : Graph) (v : View) (r : Result Drained Broken) : Type 0 where
   pub head : Head
   pub yeses : ℕ
   pub entries : ℕ
-  pub answer : r ≡ DrainedTo head yeses entries
+  pub answer : r ≡ Ok (record { head = head; yes = yeses; taken = entries })
   pub graph : Graph
   pub rebuild : Rebuild g yeses entries (marked graph true)
   pub start : Startable us graph
   pub empty : graph.pending ≡ []
   pub holds : HoldsAt head u v graph
 
-pub record DrainsAll (h : Head) (ws : List ℕ) (r : Drained) (ws' : List ℕ) : Type 0 where
+pub record DrainsAll (h : Head) (ws : List ℕ) (r : Result Drained Broken) (ws' : List ℕ) : Type 0 where
   pub inside : Inside h.n h.m ws ws'
-  pub range : (k : Head) (y t : ℕ) → r ≡ DrainedTo k y t → NearIds (length ws) h k
+  pub range : (d : Drained) → r ≡ Ok d → NearIds (length ws) h d.head
   pub sound : (g : Graph) (u : ℕ) (us : List (ℕ × ℕ)) → HoldsAt h u (view h.n h.m ws) g → Startable us g → Rebuilds us u g (view h.n h.m ws') r
 
-rebuilds : {us : List (ℕ × ℕ)} {u : ℕ} {g z : Graph} {y t : ℕ} {v : View} {r : Drained} → Rebuild g y t z → Emptied us u z y t v r → Rebuilds us u g v r
+rebuilds : {us : List (ℕ × ℕ)} {u : ℕ} {g z : Graph} {y t : ℕ} {v : View} {r : Result Drained Broken} → Rebuild g y t z → Emptied us u z y t v r → Rebuilds us u g v r
 rebuilds {us} {u} {g} {z} {y} {t} {v} {r} R E = record {
   head = E.head;
   yeses = y;
@@ -82,7 +82,7 @@ rebuilds {us} {u} {g} {z} {y} {t} {v} {r} R E = record {
   holds = E.holds;
 }
 
-pub drains_all : (h : Head) (ws : List ℕ) (r : Drained) (ws' : List ℕ) (fuel : ℕ) → fuel ≡ enough h → DrainSays h fuel ws r ws' → DrainsAll h ws r ws'
+pub drains_all : (h : Head) (ws : List ℕ) (r : Result Drained Broken) (ws' : List ℕ) (fuel : ℕ) → fuel ≡ enough h → DrainSays h fuel ws r ws' → DrainsAll h ws r ws'
 drains_all h ws r ws' fuel e D = record {
   inside = D.inside;
   range = D.range;

@@ -1,12 +1,14 @@
 -- One entry of pending, taken and closed: the machine's `step`. What `one_entry` promises.
 -- Assumes nothing.
-use Rattle.std.specs.Prelude.{Bool, false, true, List, [], ◌∷◌, ◌≢◌, ◌≡◌, refl, ◌<◌, ◌≤◌, ℕ, length}
+use Rattle.std.specs.Prelude.{None, Ok, Option, Result, Some, Bool, false, true, List, [], ◌∷◌, ◌≢◌, ◌≡◌, refl, ◌<◌, ◌≤◌, ℕ, length}
+use Rattle.broken.specs.declared.Broken.{Broken}
+use Rattle.broken.specs.Words.{broken}
 use Rattle.std.proofs.Common.{◌∙◌, ap, sym, arith}
 use Rattle.std.proofs.Math.Path.{subst}
 use Rattle.lists.specs.Tests.{zero_one}
 use Rattle.language.specs.declared.Id.{Id}
 use Rattle.steps.specs.Graph.{Graph}
-use Rattle.steps.specs.Machine.{count, popped, step}
+use Rattle.steps.specs.Machine.{popped, step}
 use Rattle.closure.specs.Invariant.{Good, Same}
 use Rattle.closure.specs.Slots.{Keyed}
 use Rattle.closure.specs.Taking.{top_lt}
@@ -15,15 +17,12 @@ use Rattle.holds.specs.Inside.{Inside, inside_then}
 use Rattle.layout.specs.Head.{HeadOk}
 use Rattle.layout.specs.View.{View, view}
 use Rattle.layout.specs.declared.Head.{Head}
-use Rattle.taking.specs.Close.{CloseSays, closed, closing}
+use Rattle.taking.specs.Close.{CloseSays, closing}
 use Rattle.taking.specs.Rekey.{Ripe}
-use Rattle.taking.specs.Take.{TakeSays}
-use Rattle.taking.specs.declared.Closed.{Closed}
-use Rattle.taking.specs.declared.Closed.TheVariants.{ClosedBroken, ClosedNo, ClosedYes}
-use Rattle.taking.specs.declared.Entry.{Entry}
-use Rattle.taking.specs.declared.Entry.TheVariants.{EntryBroken, EntryNone, EntryOne}
+use Rattle.taking.specs.Take.{TakeSays, taken}
 use Rattle.taking.specs.declared.Taken.{Taken}
-use Rattle.taking.specs.declared.Taken.TheVariants.{TakenBroken, TakenId, TakenNone}
+use Rattle.uniting.specs.Says.{told, united}
+use Rattle.uniting.specs.declared.United.{United}
 use Rattle.uniting.specs.Near.{NearIds, inside_near, near_then, view_near}
 
 -- what a rebuild keeps: the invariant of closure, a table that leads from a live key to an id that has it, and an unclean graph
@@ -32,80 +31,72 @@ pub record Open (us : List (ℕ × ℕ)) (g : Graph) : Type 0 where
   pub keyed : Keyed g.nodes g.roots g.memo
   pub unclean : g.clean ≡ false
 
-pub record EntrySays (h : Head) (ws : List ℕ) (r : Entry) (ws' : List ℕ) : Type 0 where
+pub record EntrySays (h : Head) (ws : List ℕ) (r : Result (Option United) Broken) (ws' : List ℕ) : Type 0 where
   pub inside : Inside h.n h.m ws ws'
-  pub range : (s : Head) (y : ℕ) → r ≡ EntryOne s y → (y ≤ 1) × NearIds (length ws) h s
-  pub none : (g : Graph) (u : ℕ) → HoldsAt h u (view h.n h.m ws) g → g.pending ≡ [] → (r ≡ EntryNone) × (ws' ≡ ws)
+  pub range : (s : United) → r ≡ Ok (Some s) → NearIds (length ws) h s.head
+  pub none : (g : Graph) (u : ℕ) → HoldsAt h u (view h.n h.m ws) g → g.pending ≡ [] → (r ≡ Ok None) × (ws' ≡ ws)
   pub some : (g : Graph) (u : ℕ) (us : List (ℕ × ℕ)) → HoldsAt h u (view h.n h.m ws) g → Open us g → g.pending ≢ []
-      → (s : Head) × (r ≡ EntryOne s (count (step g g.pending).answer)) × HoldsAt s u (view h.n h.m ws') (step g g.pending).graph
+      → (s : Head) × (r ≡ Ok (Some (united (step g g.pending).answer s))) × HoldsAt s u (view h.n h.m ws') (step g g.pending).graph
 
--- ---- the answers
+-- ---- the ways out
 
-closed_broken : {A : Type 0} (b : Bool) (k : Head) → ClosedBroken ≡ closed b k → A
-closed_broken true k e = zero_one cc
-closed_broken false k e = zero_one cc
-
-closed_yes : (b : Bool) (k s : Head) → ClosedYes s ≡ closed b k → EntryOne s 1 ≡ EntryOne k (count b)
-closed_yes true k s e = let z : s ≡ k = cc in ap (λ (x : Head). EntryOne x 1) z
-closed_yes false k s e = zero_one cc
-
-closed_no : (b : Bool) (k s : Head) → ClosedNo s ≡ closed b k → EntryOne s 0 ≡ EntryOne k (count b)
-closed_no true k s e = zero_one cc
-closed_no false k s e = let z : s ≡ k = cc in ap (λ (x : Head). EntryOne x 0) z
-
-module _ (h : Head) (ws ws1 : List ℕ) (r1 : Taken) (T : TakeSays h ws r1 ws1) where
+module _ (h : Head) (ws ws1 : List ℕ) (r1 : Result (Option Taken) Broken) (T : TakeSays h ws r1 ws1) where
   -- where something is pending, the first is taken
   module _ (g : Graph) (u : ℕ) (us : List (ℕ × ℕ)) (H : HoldsAt h u (view h.n h.m ws) g) (O : Open us g) where
-    first : (i : ℕ) (rest : List ℕ) → g.pending ≡ i ∷ rest → (k : Head) × (r1 ≡ TakenId (record { 0 = i }) k) × HoldsAt k u (view h.n h.m ws1) (popped g rest)
+    first : (i : ℕ) (rest : List ℕ) → g.pending ≡ i ∷ rest → (k : Head) × (r1 ≡ Ok (Some (taken i k))) × HoldsAt k u (view h.n h.m ws1) (popped g rest)
     first i rest e = T.some g u H i rest e (top_lt us g i rest O.good e)
 
-    taken_some : {A : Type 0} → g.pending ≢ [] → ((x : Id) (k : Head) → r1 ≡ TakenId x k → A) → A
+    taken_some : {A : Type 0} → g.pending ≢ [] → ((x : Taken) → r1 ≡ Ok (Some x) → A) → A
     taken_some {A} ne f = go g.pending refl
       where
         go : (l : List ℕ) → g.pending ≡ l → A
         go [] e = absurd (ne e)
-        go (i ∷ rest) e = let t = first i rest e in f (record { 0 = i }) t.0 t.1
+        go (i ∷ rest) e = let t = first i rest e in f (taken i t.0) t.1
 
-  pub entry_none : r1 ≡ TakenNone → EntrySays h ws EntryNone ws1
+  pub entry_none : r1 ≡ Ok None → EntrySays h ws (Ok None) ws1
   entry_none e = record {
     inside = T.inside;
-    range = λ s y f. zero_one cc;
+    range = λ s f. zero_one cc;
     none = λ g u H p. (refl, (T.none g u H p).1);
-    some = λ g u us H O ne. taken_some g u us H O ne (λ x k f. zero_one cc);
+    some = λ g u us H O ne. taken_some g u us H O ne (λ x f. zero_one cc);
   }
 
-  pub entry_broken : r1 ≡ TakenBroken → EntrySays h ws EntryBroken ws1
+  pub entry_broken : r1 ≡ broken → EntrySays h ws broken ws1
   entry_broken e = record {
     inside = T.inside;
-    range = λ s y f. zero_one cc;
+    range = λ s f. zero_one cc;
     none = λ g u H p. let f = (T.none g u H p).0 in zero_one cc;
-    some = λ g u us H O ne. taken_some g u us H O ne (λ x k f. zero_one cc);
+    some = λ g u us H O ne. taken_some g u us H O ne (λ x f. zero_one cc);
   }
 
-  module _ (x : Id) (k : Head) (e1 : r1 ≡ TakenId x k) where
+  module _ (x : Taken) (e1 : r1 ≡ Ok (Some x)) where
+    abbrev k : Head
+    k = x.head
+
     near : NearIds (length ws) h k
-    near = (T.range x k e1).1
+    near = (T.range x e1).1
 
     -- what `close` asks for
-    pub entry_asks : HeadOk (length ws1) k × (x.0 < k.ids)
-    entry_asks = (subst (λ (n : ℕ). HeadOk n k) (sym T.inside.size) near.near.ok, subst (λ (n : ℕ). x.0 < n) (sym near.ids_is) (T.range x k e1).0)
+    pub entry_asks : HeadOk (length ws1) x.head × (x.id.0 < x.head.ids)
+    entry_asks = (subst (λ (n : ℕ). HeadOk n k) (sym T.inside.size) near.near.ok, subst (λ (n : ℕ). x.id.0 < n) (sym near.ids_is) (T.range x e1).0)
 
     -- the id and its entry are as the graph has them
     ready : (g : Graph) (u : ℕ) (us : List (ℕ × ℕ)) → HoldsAt h u (view h.n h.m ws) g → Open us g → (i : ℕ) (rest : List ℕ) → g.pending ≡ i ∷ rest
-        → (i ≡ x.0) × HoldsAt k u (view k.n k.m ws1) (popped g rest)
+        → (i ≡ x.id.0) × HoldsAt k u (view k.n k.m ws1) (popped g rest)
     ready g u us H O i rest e =
         let t = first g u us H O i rest e in
         let f = t.1 in
-        let q : ◌≡◌ {A = Id} (record { 0 = i }) x = cc in
-        let p : t.0 ≡ k = cc in
-        (ap (λ (y : Id). y.0) q, subst (λ (v : View). HoldsAt k u v (popped g rest)) (sym (view_near near ws1)) (subst (λ (s : Head). HoldsAt s u (view h.n h.m ws1) (popped g rest)) p t.2))
+        let same : taken i t.0 ≡ x = cc in (
+          ap (λ (y : Taken). y.id.0) same,
+          subst (λ (v : View). HoldsAt k u v (popped g rest)) (sym (view_near near ws1)) (subst (λ (s : Taken). HoldsAt s.head u (view h.n h.m ws1) (popped g rest)) same t.2),
+        )
 
     ripe : (g : Graph) (us : List (ℕ × ℕ)) → Open us g → (i : ℕ) (rest : List ℕ) → g.pending ≡ i ∷ rest → Ripe (popped g rest) i
     ripe g us O i rest e =
         let low = top_lt us g i rest O.good e in
         record { low = low; unclean = O.unclean; kids = λ c m. O.good.shape.kids_lt i c low m; own = λ s l f. O.keyed s i l f }
 
-    module _ (ws2 : List ℕ) (r2 : Closed) (C : CloseSays k x.0 ws1 r2 ws2) where
+    module _ (ws2 : List ℕ) (r2 : Result United Broken) (C : CloseSays x.head x.id.0 ws1 r2 ws2) where
       inside2 : Inside h.n h.m ws ws2
       inside2 = inside_then T.inside (inside_near near C.inside)
 
@@ -116,7 +107,7 @@ module _ (h : Head) (ws ws1 : List ℕ) (r1 : Taken) (T : TakeSays h ws r1 ws1) 
       none2 g u H p = let f = (T.none g u H p).0 in zero_one cc
 
       closes_at : (g : Graph) (u : ℕ) (us : List (ℕ × ℕ)) → HoldsAt h u (view h.n h.m ws) g → Open us g → (i : ℕ) (rest : List ℕ) → g.pending ≡ i ∷ rest
-          → (s : Head) × (r2 ≡ closed (step g (i ∷ rest)).answer s) × HoldsAt s u (view h.n h.m ws2) (step g (i ∷ rest)).graph
+          → (s : Head) × (r2 ≡ told (step g (i ∷ rest)).answer s) × HoldsAt s u (view h.n h.m ws2) (step g (i ∷ rest)).graph
       unfolding step
       closes_at g u us H O i rest e =
           let a = ready g u us H O i rest e in
@@ -125,39 +116,29 @@ module _ (h : Head) (ws ws1 : List ℕ) (r1 : Taken) (T : TakeSays h ws r1 ws1) 
           (c.0, c.1, subst (λ (v : View). HoldsAt c.0 u v (closing (popped g rest) i).graph) (view_near near ws2) c.2)
 
       closes : (g : Graph) (u : ℕ) (us : List (ℕ × ℕ)) → HoldsAt h u (view h.n h.m ws) g → Open us g → g.pending ≢ []
-          → (s : Head) × (r2 ≡ closed (step g g.pending).answer s) × HoldsAt s u (view h.n h.m ws2) (step g g.pending).graph
+          → (s : Head) × (r2 ≡ told (step g g.pending).answer s) × HoldsAt s u (view h.n h.m ws2) (step g g.pending).graph
       closes g u us H O ne = go g.pending refl
         where
-          go : (l : List ℕ) → g.pending ≡ l → (s : Head) × (r2 ≡ closed (step g l).answer s) × HoldsAt s u (view h.n h.m ws2) (step g l).graph
+          go : (l : List ℕ) → g.pending ≡ l → (s : Head) × (r2 ≡ told (step g l).answer s) × HoldsAt s u (view h.n h.m ws2) (step g l).graph
           go [] e = absurd (ne e)
           go (i ∷ rest) e = closes_at g u us H O i rest e
 
-      pub entry_torn : r2 ≡ ClosedBroken → EntrySays h ws EntryBroken ws2
+      pub entry_torn : r2 ≡ broken → EntrySays h ws broken ws2
       entry_torn f = record {
         inside = inside2;
-        range = λ s y q. zero_one cc;
+        range = λ s q. zero_one cc;
         none = λ g u H p. none2 g u H p;
-        some = λ g u us H O ne. let c = closes g u us H O ne in closed_broken (step g g.pending).answer c.0 (sym f ∙ c.1);
+        some = λ g u us H O ne. let c = (closes g u us H O ne).1 in zero_one cc;
       }
 
-      pub entry_no : (s : Head) → r2 ≡ ClosedNo s → EntrySays h ws (EntryOne s 0) ws2
-      entry_no s f = record {
+      pub entry_done : (s : United) → r2 ≡ Ok s → EntrySays h ws (Ok (Some s)) ws2
+      entry_done s f = record {
         inside = inside2;
-        range = λ t y q.
-            let z : s ≡ t = cc in
-            let o : 0 ≡ y = cc in
-            (omega arith, near2 (C.range_no t (f ∙ ap ClosedNo z)));
+        range = λ t q. let z : s ≡ t = cc in subst (λ (y : United). NearIds (length ws) h y.head) z (near2 (C.range s f));
         none = λ g u H p. none2 g u H p;
-        some = λ g u us H O ne. let c = closes g u us H O ne in (c.0, closed_no (step g g.pending).answer c.0 s (sym f ∙ c.1), c.2);
-      }
-
-      pub entry_yes : (s : Head) → r2 ≡ ClosedYes s → EntrySays h ws (EntryOne s 1) ws2
-      entry_yes s f = record {
-        inside = inside2;
-        range = λ t y q.
-            let z : s ≡ t = cc in
-            let o : 1 ≡ y = cc in
-            (omega arith, near2 (C.range_yes t (f ∙ ap ClosedYes z)));
-        none = λ g u H p. none2 g u H p;
-        some = λ g u us H O ne. let c = closes g u us H O ne in (c.0, closed_yes (step g g.pending).answer c.0 s (sym f ∙ c.1), c.2);
+        some = λ g u us H O ne.
+            let c = closes g u us H O ne in
+            let b = c.1 in
+            let z : s ≡ united (step g g.pending).answer c.0 = cc in
+            (c.0, ap (λ (y : United). Ok (Some y)) z, c.2);
       }

@@ -1,20 +1,18 @@
 -- The table's entry for the key of an id is set to it: the machine's `keyed`. The graph is unclean, as it is while entries are pending.
 -- Assumes nothing.
-use Rattle.std.specs.Prelude.{false, List, ◌∷◌, ◌≡◌, ◌<◌, ℕ}
-use Rattle.std.proofs.Math.Option.{some}
+use Rattle.std.specs.Prelude.{Ok, Option, Result, Some, true, false, List, ◌∷◌, ◌≡◌, ◌<◌, ℕ}
+use Rattle.broken.specs.declared.Broken.{Broken}
+use Rattle.broken.specs.Words.{broken}
 use Rattle.std.proofs.Common.{◌∙◌, subst, sym}
 use Rattle.lists.specs.Members.{Mem}
 use Rattle.lists.specs.Tests.{zero_one}
 use Rattle.language.specs.Struct.{node_of}
 use Rattle.language.specs.Term.{Term}
 use Rattle.language.specs.declared.Id.{Id}
+use Rattle.language.specs.declared.Node.{Node}
 use Rattle.steps.specs.Graph.{Graph, ids, kept, key_of, node}
 use Rattle.steps.specs.Machine.{keyed}
 use Rattle.closure.specs.Tables.{Live, canon_live}
-use Rattle.cells.specs.declared.Change.{Change}
-use Rattle.cells.specs.declared.Change.TheVariants.{ChangeBroken, ChangeDone}
-use Rattle.growing.specs.declared.Rooted.{Rooted}
-use Rattle.growing.specs.declared.Rooting.TheVariants.{RootingBroken}
 use Rattle.holds.specs.Holds.{HoldsAt}
 use Rattle.holds.specs.HoldsLaws.{false≢true, root_again}
 use Rattle.holds.specs.Inside.{Inside, inside_same, inside_then}
@@ -25,19 +23,17 @@ use Rattle.layout.specs.declared.Head.{Head}
 use Rattle.taking.specs.Fresh.{FreshSays}
 use Rattle.taking.specs.Leave.{OustSays, Ousted, was}
 use Rattle.taking.specs.Settle.{SettleSays, Settled}
-use Rattle.taking.specs.declared.Rekeyed.{Rekeyed}
-use Rattle.taking.specs.declared.Rekeyed.TheVariants.{RekeyedBroken, RekeyedFrom}
 
 -- what is asked of a graph where id i gets its entry: the graph is unclean, the children of the id are ids, and it has no live key but its own in the table
 pub record Ripe (g : Graph) (i : ℕ) : Type 0 where
   pub low : i < ids g
   pub unclean : g.clean ≡ false
   pub kids : (c : ℕ) → Mem c (node g.nodes i).kids → c < ids g
-  pub own : (k : Term) → Live g.roots k → kept k g.memo ≡ some i → k ≡ key_of g i
+  pub own : (k : Term) → Live g.roots k → kept k g.memo ≡ Some i → k ≡ key_of g i
 
-pub record RekeySays (h : Head) (i : ℕ) (ws : List ℕ) (r : Rekeyed) (ws' : List ℕ) : Type 0 where
+pub record RekeySays (h : Head) (i : ℕ) (ws : List ℕ) (r : Result (Option Id) Broken) (ws' : List ℕ) : Type 0 where
   pub inside : Inside h.n h.m ws ws'
-  pub range : (x : Id) → r ≡ RekeyedFrom x → x.0 < h.ids
+  pub range : (x : Id) → r ≡ Ok (Some x) → x.0 < h.ids
   pub sound : (g : Graph) (u : ℕ) → HoldsAt h u (view h.n h.m ws) g → Ripe g i
       → (r ≡ was (kept (key_of g i) g.memo)) × HoldsAt h u (view h.n h.m ws') (keyed g (key_of g i) i)
 
@@ -60,43 +56,47 @@ holds_keyed H unclean k i rs ts N = record {
   scratch = H.scratch;
 }
 
-holds_settled : {h : Head} {u : ℕ} {v : View} {g : Graph} (H : HoldsAt h u v g) → g.clean ≡ false → (k : Term) (i : ℕ) (ts ws' : List ℕ) (r : Change)
+holds_settled : {h : Head} {u : ℕ} {v : View} {g : Graph} (H : HoldsAt h u v g) → g.clean ≡ false → (k : Term) (i : ℕ) (ts ws' : List ℕ) (r : Result Unit Broken)
     → Settled h i k (put table v ts) g.nodes g.roots g.memo r ws' → HoldsAt h u (view h.n h.m ws') (keyed g k i)
 holds_settled {h} {u} {v} {g} H unclean k i ts ws' r S = subst (λ (x : View). HoldsAt h u x (keyed g k i)) (sym S.is) (holds_keyed H unclean k i S.rs S.ts S.nodes)
 
-module _ (h : Head) (i : ℕ) (ws : List ℕ) (f : Rooted) (F : FreshSays h i ws f) where
-  pub rekey_lost : f.out ≡ RootingBroken → RekeySays h i ws RekeyedBroken ws
+module _ (h : Head) (i : ℕ) (ws : List ℕ) (f : Result Node Broken) (F : FreshSays h i ws f) where
+  pub rekey_lost : f ≡ broken → RekeySays h i ws broken ws
   rekey_lost e = record {
     inside = inside_same h.n h.m ws;
     range = λ x q. zero_one cc;
-    sound = λ g u H R. let q = (F.sound g u H R.low R.kids).0 in zero_one cc;
+    sound = λ g u H R. let q = (F.sound g u H R.low R.kids).1 in zero_one cc;
   }
 
-  module _ (ws1 ws2 : List ℕ) (o : Rekeyed) (s : Change) (O : OustSays h (node_of f.node) ws o ws1) (S : SettleSays h i (node_of f.node) ws1 s ws2) where
+  module _ (x : Node) (e : f ≡ Ok x) (ws1 ws2 : List ℕ) (o : Result (Option Id) Broken) (s : Result Unit Broken) (O : OustSays h (node_of x) ws o ws1)
+      (S : SettleSays h i (node_of x) ws1 s ws2) where
     -- both steps, on words that hold a graph
     both : (g : Graph) (u : ℕ) → HoldsAt h u (view h.n h.m ws) g → Ripe g i
-        → (s ≡ ChangeDone) × (o ≡ was (kept (key_of g i) g.memo)) × HoldsAt h u (view h.n h.m ws2) (keyed g (key_of g i) i)
+        → (s ≡ Ok tt) × (o ≡ was (kept (key_of g i) g.memo)) × HoldsAt h u (view h.n h.m ws2) (keyed g (key_of g i) i)
     both g u H R =
-        subst (λ (k : Term). (s ≡ ChangeDone) × (o ≡ was (kept k g.memo)) × HoldsAt h u (view h.n h.m ws2) (keyed g k i)) key
+        subst (λ (k : Term). (s ≡ Ok tt) × (o ≡ was (kept k g.memo)) × HoldsAt h u (view h.n h.m ws2) (keyed g k i)) key
         (settled (O.sound g.nodes g.roots g.memo H.nodes i (sym H.ids_are) live))
       where
         k : Term
-        k = node_of f.node
+        k = node_of x
 
         key : k ≡ key_of g i
-        key = (F.sound g u H R.low R.kids).1
+        key =
+            let q = F.sound g u H R.low R.kids in
+            let same : q.0 ≡ x = let s = q.1 in cc in
+            rw (← same) q.2
 
         live : Live g.roots k
         live = rw key (canon_live g.roots (node g.nodes i) (root_again H.forest))
 
         settled : (o ≡ was (kept k g.memo)) × Ousted h i k H.nodes.keys H.nodes.buckets (view h.n h.m ws) ws1
-            → (s ≡ ChangeDone) × (o ≡ was (kept k g.memo)) × HoldsAt h u (view h.n h.m ws2) (keyed g k i)
+            → (s ≡ Ok tt) × (o ≡ was (kept k g.memo)) × HoldsAt h u (view h.n h.m ws2) (keyed g k i)
         settled a =
             let b = S.sound (put table (view h.n h.m ws) a.1.ts) a.1.is (view h.n h.m ws).table g.nodes g.roots g.memo H.nodes R.low key
             (λ k' l e. R.own k' l e ∙ sym key) a.1.vacant in
             (b.done, a.0, holds_settled H R.unclean k i a.1.ts ws2 s b)
 
-    pub rekey_stuck : s ≡ ChangeBroken → RekeySays h i ws RekeyedBroken ws2
+    pub rekey_stuck : s ≡ broken → RekeySays h i ws broken ws2
     rekey_stuck e = record {
       inside = inside_then O.inside S.inside;
       range = λ x q. zero_one cc;

@@ -1,7 +1,9 @@
 -- The last of pending is taken. What `take` and the two functions inside it promise, and one law for each way out.
 -- Assumes nothing.
+use Rattle.std.specs.Prelude.{Err, None, Ok, Option, Result, Some, ◌⊎◌, ◌≡◌, refl, ◌+◌, ◌-◌, ◌<◌, ◌≤◌, ℕ, length}
+use Rattle.broken.specs.declared.Broken.{Broken}
+use Rattle.broken.specs.Words.{broken}
 use mathlib.Core.List.{List, [], ◌∷◌, cons≢nil, head-eq_of_cons-eq, tail-eq_of_cons-eq}
-use Rattle.std.specs.Prelude.{◌⊎◌, ◌≡◌, refl, ◌+◌, ◌-◌, ◌<◌, ◌≤◌, ℕ, length}
 use Rattle.std.proofs.Common.{inl, inr, ◌∙◌, ap, subst, sym, arith}
 use Rattle.lists.specs.Reads.{at}
 use Rattle.lists.specs.Tests.{lt_or, zero_one}
@@ -22,31 +24,34 @@ use Rattle.pending.specs.Promise.{PushesStretch, Tops}
 use Rattle.pending.specs.declared.OnTop.{OnTop}
 use Rattle.pending.specs.declared.OnTop.TheVariants.{TopMany, TopOne}
 use Rattle.taking.specs.declared.Taken.{Taken}
-use Rattle.taking.specs.declared.Taken.TheVariants.{TakenBroken, TakenId, TakenNone}
 use Rattle.uniting.specs.Near.{NearIds}
 
 -- the numbers with the depth d of pending
 abbrev pub at_depth : Head → ℕ → Head
 at_depth h d = record { n = h.n; m = h.m; ids = h.ids; places = h.places; depth = d; classes = h.classes; clean = h.clean }
 
+-- id i taken, with the numbers k
+abbrev pub taken : ℕ → Head → Taken
+taken i k = record { id = record { 0 = i }; head = k }
+
 -- ---- the promises
 
-pub record Hands (h : Head) (d i : ℕ) (r : Taken) : Type 0 where
-  pub known : i < h.ids → r ≡ TakenId (record { 0 = i }) (at_depth h d)
-  pub unknown : h.ids ≤ i → r ≡ TakenBroken
+pub record Hands (h : Head) (d i : ℕ) (r : Result Taken Broken) : Type 0 where
+  pub known : i < h.ids → r ≡ Ok (taken i (at_depth h d))
+  pub unknown : h.ids ≤ i → r ≡ broken
 
-pub record LastSays (h : Head) (place count : ℕ) (ws : List ℕ) (r : Taken) (ws' : List ℕ) : Type 0 where
+pub record LastSays (h : Head) (place count : ℕ) (ws : List ℕ) (r : Result Taken Broken) (ws' : List ℕ) : Type 0 where
   pub inside : Inside h.n h.m ws ws'
-  pub range : (x : Id) (k : Head) → r ≡ TakenId x k → (x.0 < h.ids) × NearIds (length ws) h k
-  pub sound : (g : Graph) (u : ℕ) → HoldsAt h u (view h.n h.m ws) g → (t : OnTop) → Tops (view h.n h.m ws).pending h.depth t → t ≡ TopMany place count
-      → (i : ℕ) (rest : List ℕ) → g.pending ≡ i ∷ rest → i < ids g → (k : Head) × (r ≡ TakenId (record { 0 = i }) k) × HoldsAt k u (view h.n h.m ws') (popped g rest)
+  pub range : (x : Taken) → r ≡ Ok x → (x.id.0 < h.ids) × NearIds (length ws) h x.head
+  pub sound : (g : Graph) (u : ℕ) → HoldsAt h u (view h.n h.m ws) g → (t : OnTop ℕ) → Tops (view h.n h.m ws).pending h.depth t → t ≡ TopMany place count
+      → (i : ℕ) (rest : List ℕ) → g.pending ≡ i ∷ rest → i < ids g → (k : Head) × (r ≡ Ok (taken i k)) × HoldsAt k u (view h.n h.m ws') (popped g rest)
 
-pub record TakeSays (h : Head) (ws : List ℕ) (r : Taken) (ws' : List ℕ) : Type 0 where
+pub record TakeSays (h : Head) (ws : List ℕ) (r : Result (Option Taken) Broken) (ws' : List ℕ) : Type 0 where
   pub inside : Inside h.n h.m ws ws'
-  pub range : (x : Id) (k : Head) → r ≡ TakenId x k → (x.0 < h.ids) × NearIds (length ws) h k
-  pub none : (g : Graph) (u : ℕ) → HoldsAt h u (view h.n h.m ws) g → g.pending ≡ [] → (r ≡ TakenNone) × (ws' ≡ ws)
+  pub range : (x : Taken) → r ≡ Ok (Some x) → (x.id.0 < h.ids) × NearIds (length ws) h x.head
+  pub none : (g : Graph) (u : ℕ) → HoldsAt h u (view h.n h.m ws) g → g.pending ≡ [] → (r ≡ Ok None) × (ws' ≡ ws)
   pub some : (g : Graph) (u : ℕ) → HoldsAt h u (view h.n h.m ws) g
-      → (i : ℕ) (rest : List ℕ) → g.pending ≡ i ∷ rest → i < ids g → (k : Head) × (r ≡ TakenId (record { 0 = i }) k) × HoldsAt k u (view h.n h.m ws') (popped g rest)
+      → (i : ℕ) (rest : List ℕ) → g.pending ≡ i ∷ rest → i < ids g → (k : Head) × (r ≡ Ok (Some (taken i k))) × HoldsAt k u (view h.n h.m ws') (popped g rest)
 
 -- ---- on the view
 
@@ -78,40 +83,38 @@ module _ {h : Head} {u : ℕ} {v : View} {g : Graph} (H : HoldsAt h u v g) where
 
 -- ---- an id handed out
 
-pub hand_known : (h : Head) (d i : ℕ) → i < h.ids → Hands h d i (TakenId (record { 0 = i }) (at_depth h d))
+pub hand_known : (h : Head) (d i : ℕ) → i < h.ids → Hands h d i (Ok (taken i (at_depth h d)))
 hand_known h d i l = record { known = λ _. refl; unknown = λ (z : h.ids ≤ i). absurd (omega arith) }
 
-pub hand_unknown : (h : Head) (d i : ℕ) → h.ids ≤ i → Hands h d i TakenBroken
+pub hand_unknown : (h : Head) (d i : ℕ) → h.ids ≤ i → Hands h d i broken
 hand_unknown h d i l = record { known = λ (z : i < h.ids). absurd (omega arith); unknown = λ _. refl }
 
 near_depth : (len : ℕ) (h : Head) (d : ℕ) → HeadOk len h → d ≤ h.depth → NearIds len h (at_depth h d)
 near_depth len h d ok le = record { near = record { ok = omega arith; n_is = refl; m_is = refl }; ids_is = refl; places_is = refl }
 
-hands_range : (len : ℕ) (h : Head) (d i : ℕ) (r : Taken) → HeadOk len h → d ≤ h.depth → Hands h d i r
-    → (x : Id) (k : Head) → r ≡ TakenId x k → (x.0 < h.ids) × NearIds len h k
-hands_range len h d i r ok le K x k e = go (lt_or i h.ids)
+hands_range : (len : ℕ) (h : Head) (d i : ℕ) (r : Result Taken Broken) → HeadOk len h → d ≤ h.depth → Hands h d i r
+    → (x : Taken) → r ≡ Ok x → (x.id.0 < h.ids) × NearIds len h x.head
+hands_range len h d i r ok le K x e = go (lt_or i h.ids)
   where
-    go : (i < h.ids) ⊎ (h.ids ≤ i) → (x.0 < h.ids) × NearIds len h k
+    go : (i < h.ids) ⊎ (h.ids ≤ i) → (x.id.0 < h.ids) × NearIds len h x.head
     go (inl l) =
         let f = K.known l in
-        let a : ◌≡◌ {A = Id} (record { 0 = i }) x = cc in
-        let n : i ≡ x.0 = ap (λ (y : Id). y.0) a in
-        let b : at_depth h d ≡ k = cc in
-        (omega arith, subst (λ (s : Head). NearIds len h s) b (near_depth len h d ok le))
+        let same : taken i (at_depth h d) ≡ x = cc in
+        subst (λ (y : Taken). (y.id.0 < h.ids) × NearIds len h y.head) same (l, near_depth len h d ok le)
     go (inr l) = let f = K.unknown l in zero_one cc
 
 module _ (h : Head) (ws : List ℕ) (ok : HeadOk (length ws) h) where
   -- ---- the ways out of `take_last`
 
   module _ (place count : ℕ) (q : (0 < h.depth) × (0 < count)) where
-    pub last_broken : h.m ≤ place → LastSays h place count ws TakenBroken ws
+    pub last_broken : h.m ≤ place → LastSays h place count ws broken ws
     last_broken le = record {
       inside = inside_same h.n h.m ws;
-      range = λ x k e. zero_one cc;
+      range = λ x e. zero_one cc;
       sound = λ g u H t T is i rest e l. absurd (let w = parents_many_low _ _ _ _ _ _ _ _ _ _ H.parents place count t q.0 T is in omega arith);
     }
 
-    pub last_done : (ws1 : List ℕ) (i b d : ℕ) (r : Taken) → Loaded (view h.n h.m ws).owners place i → Word (view h.n h.m ws).uses (h.n + h.n + h.n + place) b
+    pub last_done : (ws1 : List ℕ) (i b d : ℕ) (r : Result Taken Broken) → Loaded (view h.n h.m ws).owners place i → Word (view h.n h.m ws).uses (h.n + h.n + h.n + place) b
         → Lent pending h.n h.m (λ w w'. PushesStretch w (h.depth - 1) b (count - 1) d w') ws ws1 → Hands h d i r → LastSays h place count ws r ws1
     last_done ws1 i b d r O W L K =
         let a = lent_next L refl in
@@ -123,39 +126,48 @@ module _ (h : Head) (ws : List ℕ) (ok : HeadOk (length ws) h) where
               let p = holds_popped H d j (at (view h.n h.m ws).owners place) rest a.new (omega (arith, L.did.high)) e P in
               let ij : i ≡ j = O.is ∙ p.0 in
               let low : i < h.ids = omega (arith, H.ids_are) in
-              (at_depth h d, K.known low ∙ ap (λ (x : ℕ). TakenId (record { 0 = x }) (at_depth h d)) ij, subst (λ (z : View). HoldsAt (at_depth h d) u z (popped g rest)) (sym a.is) p.1);
+              (at_depth h d, K.known low ∙ ap (λ (x : ℕ). Ok (taken x (at_depth h d))) ij, subst (λ (z : View). HoldsAt (at_depth h d) u z (popped g rest)) (sym a.is) p.1);
         }
 
   -- ---- the ways out of `take`
 
-  pub take_none : h.depth ≡ 0 → TakeSays h ws TakenNone ws
+  pub take_none : h.depth ≡ 0 → TakeSays h ws (Ok None) ws
   take_none z = record {
     inside = inside_same h.n h.m ws;
-    range = λ x k e. zero_one cc;
+    range = λ x e. zero_one cc;
     none = λ g u H e. (refl, refl);
     some = λ g u H i rest e l. absurd (cons≢nil (sym e ∙ parents_empty _ _ _ _ _ _ _ _ _ _ H.parents z));
   }
 
-  module _ (some : 0 < h.depth) (t : OnTop) (T : Tops (view h.n h.m ws).pending h.depth t) (r : Taken) where
+  -- an entry that was taken, or none where the step before it met broken words
+  abbrev pub entry_of : Result Taken Broken → Result (Option Taken) Broken
+  entry_of (Ok x) = Ok (Some x)
+  entry_of (Err e) = Err e
+
+  entry_is : (r : Result Taken Broken) (x : Taken) → entry_of r ≡ Ok (Some x) → r ≡ Ok x
+  entry_is (Ok y) x e = cc
+  entry_is (Err _) x e = zero_one cc
+
+  module _ (some : 0 < h.depth) (t : OnTop ℕ) (T : Tops (view h.n h.m ws).pending h.depth t) (r : Result Taken Broken) where
     full : (g : Graph) (u : ℕ) → HoldsAt h u (view h.n h.m ws) g → g.pending ≡ [] → ⊥
     full g u H e = parents_some _ _ _ _ _ _ _ _ _ _ H.parents some e
 
-    pub take_one : (x : ℕ) → t ≡ TopOne x → Hands h (h.depth - 1) x r → TakeSays h ws r ws
+    pub take_one : (x : ℕ) → t ≡ TopOne x → Hands h (h.depth - 1) x r → TakeSays h ws (entry_of r) ws
     take_one x is K = record {
       inside = inside_same h.n h.m ws;
-      range = hands_range (length ws) h (h.depth - 1) x r ok (omega arith) K;
+      range = λ y e. hands_range (length ws) h (h.depth - 1) x r ok (omega arith) K y (entry_is r y e);
       none = λ g u H e. absurd (full g u H e);
       some = λ g u H i rest e l.
           let P = parents_take_one _ _ _ _ _ _ _ _ _ _ H.parents x t some T is in
           let p = holds_popped H (h.depth - 1) i x rest (view h.n h.m ws).pending (omega arith) e P in
           let low : x < h.ids = omega (arith, H.ids_are, p.0) in
-          (at_depth h (h.depth - 1), K.known low ∙ ap (λ (y : ℕ). TakenId (record { 0 = y }) (at_depth h (h.depth - 1))) p.0, p.1);
+          (at_depth h (h.depth - 1), ap entry_of (K.known low) ∙ ap (λ (y : ℕ). Ok (Some (taken y (at_depth h (h.depth - 1))))) p.0, p.1);
     }
 
-    pub take_many : (place count : ℕ) (ws1 : List ℕ) → t ≡ TopMany place count → LastSays h place count ws r ws1 → TakeSays h ws r ws1
+    pub take_many : (place count : ℕ) (ws1 : List ℕ) → t ≡ TopMany place count → LastSays h place count ws r ws1 → TakeSays h ws (entry_of r) ws1
     take_many place count ws1 is L = record {
       inside = L.inside;
-      range = L.range;
+      range = λ x e. L.range x (entry_is r x e);
       none = λ g u H e. absurd (full g u H e);
-      some = λ g u H i rest e l. L.sound g u H t T is i rest e l;
+      some = λ g u H i rest e l. let a = L.sound g u H t T is i rest e l in (a.0, ap entry_of a.1, a.2);
     }

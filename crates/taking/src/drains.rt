@@ -7,71 +7,59 @@ ghost use Rattle.taking.specs.Entry.{EntrySays};
 ghost use Rattle.taking.specs.Drain.{DrainSays};
 ghost use Rattle.taking.specs.Enough.{DrainsAll};
 
+use super::Drained;
 use super::keys::rekey;
 use super::takes::take;
-use super::{Closed, Drained, Entry, Rekeyed, Taken};
+use broken::Broken;
 use language::Id;
 use layout::Head;
+use uniting::United;
 
 // The table's entry for the key of an id is set to it; if the key had an id before, the two are united.
-fn close(ws: &mut [u32], h: Head, id: Id) -> Closed
+fn close(ws: &mut [u32], h: Head, id: Id) -> Result<United, Broken>
     requires head_ok { HeadOk (length ws.old) h }
     requires id_lt_ids { id.0 < h.ids }
     ensures { CloseSays h id.0 ws.old result ws.new }
 {
-    match rekey(ws, h, id) {
-        Rekeyed::RekeyedBroken => Closed::ClosedBroken,
-        Rekeyed::RekeyedNew => Closed::ClosedNo(h),
-        Rekeyed::RekeyedFrom(old) => match uniting::unite(ws, h, old, id) {
-            uniting::United::UnitedBroken => Closed::ClosedBroken,
-            uniting::United::UnitedNo(k) => Closed::ClosedNo(k),
-            uniting::United::UnitedYes(k) => Closed::ClosedYes(k),
-        },
-    }
+    let Some(old) = rekey(ws, h, id)? else {
+        return Ok(United {
+            head: h,
+            joined: false,
+        });
+    };
+    uniting::unite(ws, h, old, id)
 }
 
-// One entry of pending.
-fn one_entry(ws: &mut [u32], h: Head) -> Entry
+// One entry of pending, if there is one.
+fn one_entry(ws: &mut [u32], h: Head) -> Result<Option<United>, Broken>
     requires { HeadOk (length ws.old) h }
     ensures { EntrySays h ws.old result ws.new }
 {
-    match take(ws, h) {
-        Taken::TakenNone => Entry::EntryNone,
-        Taken::TakenBroken => Entry::EntryBroken,
-        Taken::TakenId(id, k) => match close(ws, k, id) {
-            Closed::ClosedBroken => Entry::EntryBroken,
-            Closed::ClosedNo(s) => Entry::EntryOne(s, 0),
-            Closed::ClosedYes(s) => Entry::EntryOne(s, 1),
-        },
-    }
+    let Some(entry) = take(ws, h)? else {
+        return Ok(None);
+    };
+    Ok(Some(close(ws, entry.head, entry.id)?))
 }
 
 // Entries are taken until none is pending, but fewer than `fuel`.
-fn drain_within(ws: &mut [u32], h: Head, fuel: usize) -> Drained
+fn drain_within(ws: &mut [u32], h: Head, fuel: usize) -> Result<Drained, Broken>
     requires { HeadOk (length ws.old) h }
     ensures { DrainSays h fuel ws.old result ws.new }
 {
-    let mut k = h;
-    let mut left = fuel;
+    let mut head = h;
     let mut yes: usize = 0;
-    let mut taken: usize = 0;
-    while 0 < left {
-        match one_entry(ws, k) {
-            Entry::EntryBroken => return Drained::DrainedBroken,
-            Entry::EntryNone => return Drained::DrainedTo(k, yes, taken),
-            Entry::EntryOne(s, y) => {
-                k = s;
-                yes += y;
-                taken += 1;
-                left -= 1;
-            }
-        }
+    for taken in 0..fuel {
+        let Some(closed) = one_entry(ws, head)? else {
+            return Ok(Drained { head, yes, taken });
+        };
+        head = closed.head;
+        yes += usize::from(closed.joined);
     }
-    Drained::DrainedBroken
+    Err(Broken)
 }
 
 // Entries are taken until none is pending.
-pub fn drain(ws: &mut [u32], h: Head) -> Drained
+pub fn drain(ws: &mut [u32], h: Head) -> Result<Drained, Broken>
     requires { HeadOk (length ws.old) h }
     ensures { DrainsAll h ws.old result ws.new }
 {

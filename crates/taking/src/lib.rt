@@ -14,43 +14,19 @@
 use language::Id;
 use layout::Head;
 
-// The id taken and the new numbers of the head; or nothing is pending; or words that no calls could have produced.
+// The id taken, and the new numbers of the head.
 #[derive(Clone, Copy)]
-pub enum Taken {
-    TakenId(Id, Head),
-    TakenNone,
-    TakenBroken,
+pub struct Taken {
+    pub id: Id,
+    pub head: Head,
 }
 
-// The id that had the key before, if there was one; or words that no calls could have produced.
+// Nothing is pending any more: the new numbers of the head, how many unions answered yes, and how many entries were taken.
 #[derive(Clone, Copy)]
-enum Rekeyed {
-    RekeyedFrom(Id),
-    RekeyedNew,
-    RekeyedBroken,
-}
-
-// Whether two classes were joined, each with the new numbers of the head; or words that no calls could have produced.
-#[derive(Clone, Copy)]
-enum Closed {
-    ClosedYes(Head),
-    ClosedNo(Head),
-    ClosedBroken,
-}
-
-// An entry taken: the new numbers of the head, and how many yes answers there were, 0 or 1; or nothing is pending; or words that no calls could have produced.
-#[derive(Clone, Copy)]
-enum Entry {
-    EntryOne(Head, usize),
-    EntryNone,
-    EntryBroken,
-}
-
-// Nothing is pending any more: the new numbers of the head, the yes answers, the entries taken; or words that no calls could have produced, or too many entries.
-#[derive(Clone, Copy)]
-pub enum Drained {
-    DrainedTo(Head, usize, usize),
-    DrainedBroken,
+pub struct Drained {
+    pub head: Head,
+    pub yes: usize,
+    pub taken: usize,
 }
 
 mod takes;

@@ -4,37 +4,30 @@ ghost use Rattle.layout.specs.Head.{HeadOk};
 ghost use Rattle.taking.specs.Take.{Hands, LastSays, TakeSays};
 
 use super::Taken;
+use broken::Broken;
 use language::Id;
 use layout::Head;
+use pending::OnTop;
 
 // The id, if it is one, with the depth that is left.
-fn hand(h: Head, depth: usize, id: Id) -> Taken
+fn hand(h: Head, depth: usize, id: Id) -> Result<Taken, Broken>
     ensures { Hands h depth id.0 result }
 {
     if h.ids <= id.0 as usize {
-        return Taken::TakenBroken;
+        return Err(Broken);
     }
-    let k = Head {
-        n: h.n,
-        m: h.m,
-        ids: h.ids,
-        places: h.places,
-        depth,
-        classes: h.classes,
-        clean: h.clean,
-    };
-    Taken::TakenId(id, k)
+    let head = Head { depth, ..h };
+    Ok(Taken { id, head })
 }
 
 // Of a stretch of places the last is taken, and the others are put back.
-fn take_last(ws: &mut [u32], h: Head, place: usize, count: usize) -> Taken
+fn take_last(ws: &mut [u32], h: Head, place: usize, count: usize) -> Result<Taken, Broken>
     requires head_ok { HeadOk (length ws.old) h }
     requires depth_nonzero { (0 < h.depth) × (0 < count) × (count < 2 ^ 32) }
     ensures { LastSays h place count ws.old result ws.new }
 {
-    let m = h.m;
-    if m <= place {
-        return Taken::TakenBroken;
+    if h.m <= place {
+        return Err(Broken);
     }
     let id = parts::on_owners::owner(ws, h, place);
     let before = parts::on_uses::link(ws, h, place);
@@ -42,17 +35,17 @@ fn take_last(ws: &mut [u32], h: Head, place: usize, count: usize) -> Taken
     hand(h, depth, id)
 }
 
-// The last of pending is taken.
-pub fn take(ws: &mut [u32], h: Head) -> Taken
+// The last of pending is taken, if there is one.
+pub fn take(ws: &mut [u32], h: Head) -> Result<Option<Taken>, Broken>
     requires { HeadOk (length ws.old) h }
     ensures { TakeSays h ws.old result ws.new }
 {
     let depth = h.depth;
     if depth == 0 {
-        return Taken::TakenNone;
+        return Ok(None);
     }
     match parts::on_pending::top(ws, h, depth) {
-        parts::OnTop::TopOne(id) => hand(h, depth - 1, id),
-        parts::OnTop::TopMany(place, count) => take_last(ws, h, place, count),
+        OnTop::TopOne(id) => Ok(Some(hand(h, depth - 1, id)?)),
+        OnTop::TopMany(place, count) => Ok(Some(take_last(ws, h, place, count)?)),
     }
 }

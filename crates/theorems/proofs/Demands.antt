@@ -1,7 +1,9 @@
 -- The three demands, in their order, of words that runs of calls can have left (`Reached`). Of such words `Leads cs g` names the graph g that the definitions' own steps
 -- for the accepted calls cs lead to: there is one (`reached`), and only one (`leads_one`). The records are those of specs, Demands.
 -- Assumes nothing.
-use Rattle.std.specs.Prelude.{Bool, true, List, [], ◌++◌, ◌∷◌, ◌↔◌, ◌≡◌, ◌<◌, ℕ, length}
+use Rattle.egraph.specs.declared.Refusal.{Refusal}
+use Rattle.language.specs.declared.Id.{Id}
+use Rattle.std.specs.Prelude.{Result, Bool, true, List, [], ◌++◌, ◌∷◌, ◌↔◌, ◌≡◌, ◌<◌, ℕ, length}
 use Rattle.std.proofs.Common.{◌∙◌, ap, subst, sym, arith}
 use Rattle.language.specs.Term.{Term}
 use Rattle.steps.specs.Forced.{Forced}
@@ -9,12 +11,9 @@ use Rattle.steps.specs.Graph.{Graph}
 use Rattle.steps.specs.Machine.{Rebuild}
 use Rattle.closure.specs.Closed.{again}
 use Rattle.closure.specs.Ends.{ends}
-use Rattle.egraph.specs.Answers.{count_says, find_says, flag, flag_says, yes_with}
+use Rattle.egraph.specs.Answers.{count_says, id_says, flag, flag_says, yes_with}
 use Rattle.egraph.specs.Reads.{CleanSays, FindSays}
 use Rattle.egraph.specs.Rebuilds.{RebuildSays}
-use Rattle.egraph.specs.declared.CountAnswer.{CountAnswer}
-use Rattle.egraph.specs.declared.FindAnswer.{FindAnswer}
-use Rattle.egraph.specs.declared.FlagAnswer.{FlagAnswer}
 use Rattle.theorems.specs.Course.{words_again, words_demand_3, words_sound}
 use Rattle.theorems.specs.Demands.{Answers, Refuses, SameAnswers, answers, refuses, same_answers}
 use Rattle.theorems.specs.Held
@@ -37,17 +36,17 @@ demand_2 {cs = cs} {ws = ws} {g = g} R L = answers (unions_of cs) ws g (behind R
 -- ---- the requested unions force them equal (equality's laws, and congruence of nodes alike in operator, payload and child count).
 
 pub demand_3 : {n m : ℕ} {cs : List Call} {ws : List ℕ} → Reached n m cs ws → rebuilt cs ≡ true → (i j : ℕ) → i < length (nodes_of cs) → j < length (nodes_of cs)
-    → (r r' : FindAnswer) → FindSays ws i r → FindSays ws j r' → (find_says r ≡ find_says r') ↔ Forced (nodes_of cs) (unions_of cs) i j
+    → (r r' : Result Id Refusal) → FindSays ws i r → FindSays ws j r' → (id_says r ≡ id_says r') ↔ Forced (nodes_of cs) (unions_of cs) i j
 demand_3 {cs = cs} {ws = ws} R e i j hi hj r r' s t =
     let l = reached R in
     let B = l.2 in
-    subst (λ (ns : List Term). (find_says r ≡ find_says r') ↔ Forced ns (unions_of cs) i j) B.nodes
+    subst (λ (ns : List Term). (id_says r ≡ id_says r') ↔ Forced ns (unions_of cs) i j) B.nodes
     (words_demand_3 (unions_of cs) ws l.0 B.run (B.clean ∙ e) i j r r' s t (omega (arith, ap length B.nodes)) (omega (arith, ap length B.nodes)))
 
 -- ---- demand 3, on. Before a rebuild, one root still means forced equal.
 
 pub demand_3_before : {n m : ℕ} {cs : List Call} {ws : List ℕ} → Reached n m cs ws → (i j : ℕ) → i < length (nodes_of cs) → j < length (nodes_of cs)
-    → (r r' : FindAnswer) → FindSays ws i r → FindSays ws j r' → find_says r ≡ find_says r' → Forced (nodes_of cs) (unions_of cs) i j
+    → (r r' : Result Id Refusal) → FindSays ws i r → FindSays ws j r' → id_says r ≡ id_says r' → Forced (nodes_of cs) (unions_of cs) i j
 demand_3_before {cs = cs} {ws = ws} R i j hi hj r r' s t q =
     let l = reached R in
     let B = l.2 in
@@ -55,7 +54,7 @@ demand_3_before {cs = cs} {ws = ws} R i j hi hj r r' s t q =
     (words_sound (unions_of cs) ws l.0 B.run i j r r' s t (omega (arith, ap length B.nodes)) (omega (arith, ap length B.nodes)) q)
 
 -- and `clean` says which of the two it is
-pub demand_3_clean : {n m : ℕ} {cs : List Call} {ws : List ℕ} → Reached n m cs ws → (r : FlagAnswer) → CleanSays ws r → flag_says r ≡ yes_with (flag (rebuilt cs))
+pub demand_3_clean : {n m : ℕ} {cs : List Call} {ws : List ℕ} → Reached n m cs ws → (r : Result Bool Refusal) → CleanSays ws r → flag_says r ≡ yes_with (flag (rebuilt cs))
 demand_3_clean {cs = cs} {ws = ws} R r s = let l = reached R in Held.clean_held (unions_of cs) ws l.0 l.2.run r s ∙ ap (λ (b : Bool). yes_with (flag b)) l.2.clean
 
 -- ---- demand 3, on. Another rebuild then returns 0 and alters no answer.
@@ -75,7 +74,7 @@ leads_on (did_union i j ∷ ds) cs cs' f h l = (l.0, leads_on ds cs cs' f l.0 l.
 leads_on (did_rebuild ∷ ds) cs cs' f h l = (l.0, leads_on ds cs cs' f l.0 l.1, l.2)
 
 module _ {n m : ℕ} {cs : List Call} {ws : List ℕ} (R : Reached n m cs ws) (e : rebuilt cs ≡ true) where
-  pub demand_3_again : (r : CountAnswer) (ws' : List ℕ) → RebuildSays ws r ws' → count_says r ≡ yes_with (0 ∷ [])
+  pub demand_3_again : (r : Result ℕ Refusal) (ws' : List ℕ) → RebuildSays ws r ws' → count_says r ≡ yes_with (0 ∷ [])
   demand_3_again r ws' s = let l = reached R in (words_again (unions_of cs) ws l.0 l.2.run (l.2.clean ∙ e) r ws' s).0
 
   -- whatever calls ds are accepted later, none at first: with or without another rebuild before them every call is answered alike

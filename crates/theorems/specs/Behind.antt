@@ -2,9 +2,9 @@
 -- lead to, the words hold it, calls made it with the unions asked for, its nodes are those that got an id, and it is clean where a rebuild has ended and no node or union
 -- has come since. Here is what each call does to it; `reached` and `behind` of proofs, Behind, are of whole runs.
 -- Assumes nothing.
-use Rattle.std.specs.Prelude.{Bool, false, true, List, [], ◌++◌, ◌∷◌, ◌≢◌, ◌⊎◌, ◌≡◌, refl, ◌+◌, ◌<◌, ◌≤◌, ℕ, length}
+use Rattle.language.specs.declared.Id.{Id}
+use Rattle.std.specs.Prelude.{Err, Ok, Result, Bool, false, true, List, [], ◌++◌, ◌∷◌, ◌≢◌, ◌⊎◌, ◌≡◌, refl, ◌+◌, ◌<◌, ◌≤◌, ℕ, length, Option, None, Some}
 use Rattle.std.proofs.Common.{inl, inr, ◌∙◌, ap, subst, sym, arith}
-use Rattle.std.proofs.Math.Option.{Option, none, some}
 use Rattle.std.proofs.Math.Decide.{dec_lt, ℕ_discrete}
 use Rattle.lists.specs.Reads.{at}
 use Rattle.lists.specs.Tests.{lt_or, when, when_no, when_yes}
@@ -20,19 +20,12 @@ use Rattle.closure.specs.Ends.{ends}
 use Rattle.closure.specs.Kept.{made_good}
 use Rattle.adding.specs.Says.{kept_for}
 use Rattle.egraph.specs.Adds.{AddingSays, add_new, add_old, uncanonical_new, uncanonical_old}
-use Rattle.egraph.specs.Answers.{Answer, add_says, count_says, flag, head_of, never, no_by, number_of, union_says, yes_with}
+use Rattle.egraph.specs.Answers.{Answer, id_says, count_says, flag, head_of, never, no_by, number_of, flag_says, yes_with}
 use Rattle.egraph.specs.Rebuilds.{RebuildSays}
 use Rattle.egraph.specs.Setup.{Limits, SetupSays}
 use Rattle.egraph.specs.Unions.{UnionSays}
-use Rattle.egraph.specs.declared.AddAnswer.{AddAnswer}
-use Rattle.egraph.specs.declared.AddAnswer.TheVariants.{AddId, AddNot}
-use Rattle.egraph.specs.declared.CountAnswer.{CountAnswer}
-use Rattle.egraph.specs.declared.CountAnswer.TheVariants.{CountIs, CountNot}
 use Rattle.egraph.specs.declared.Refusal.{Refusal}
 use Rattle.egraph.specs.declared.Refusal.TheVariants.{BadHead, BadLimits, BrokenWords, NoRoom, NotRebuilt, TooFewWords, TooLong, TooManyChildren, UnknownId}
-use Rattle.egraph.specs.declared.SetupAnswer.TheVariants.{SetupDone, SetupNot}
-use Rattle.egraph.specs.declared.UnionAnswer.{UnionAnswer}
-use Rattle.egraph.specs.declared.UnionAnswer.TheVariants.{UnionNo, UnionNot, UnionYes}
 use Rattle.layout.specs.Cut.{need}
 use Rattle.layout.specs.declared.Head.{Head}
 use Rattle.rows.specs.Rows
@@ -82,8 +75,8 @@ union_nodes g i j =
 
 close_nodes : (g : Graph) (o : Option ℕ) (i : ℕ) → (close g o i).graph.nodes ≡ g.nodes
 unfolding close
-close_nodes g none i = refl
-close_nodes g (some k) i = union_nodes g k i
+close_nodes g None i = refl
+close_nodes g (Some k) i = union_nodes g k i
 
 step_nodes : (g : Graph) (p : List ℕ) → (step g p).graph.nodes ≡ g.nodes
 unfolding step
@@ -96,11 +89,11 @@ rebuild_nodes (more {g = g} n r) = rebuild_nodes r ∙ step_nodes g g.pending
 
 -- ---- an add of a node that the table has, and of another one
 
-add_same : (g : Graph) (x : Term) (i : ℕ) → kept_for g x ≡ some i → (Machine.add g x).graph ≡ g
+add_same : (g : Graph) (x : Term) (i : ℕ) → kept_for g x ≡ Some i → (Machine.add g x).graph ≡ g
 unfolding Machine.add Machine.add_uncanonical Machine.add_by
 add_same g x i e = rw e refl
 
-add_grows : (g : Graph) (x : Term) → kept_for g x ≡ none → (Machine.add g x).graph ≡ grow g x
+add_grows : (g : Graph) (x : Term) → kept_for g x ≡ None → (Machine.add g x).graph ≡ grow g x
 unfolding Machine.add Machine.add_uncanonical Machine.add_by
 add_grows g x e = rw e refl
 
@@ -110,8 +103,8 @@ grow_nodes g x = refl
 
 -- what is answered for a node that was there is an id, and for a new one the next
 pub record Ids (g : Graph) (x : Term) (id : ℕ) : Type 0 where
-  pub old : (i : ℕ) → kept_for g x ≡ some i → id < ids g
-  pub new : kept_for g x ≡ none → id ≡ ids g
+  pub old : (i : ℕ) → kept_for g x ≡ Some i → id < ids g
+  pub new : kept_for g x ≡ None → id ≡ ids g
 
 module _ {us : List (ℕ × ℕ)} {g : Graph} (M : Made us g) (x : Term) where
   pub uncanonical_ids : Ids g x (Machine.add_uncanonical g x).id
@@ -141,7 +134,7 @@ stays {n} {m} {cs} l e = subst (Led n m cs) (sym e) l
 not_no : {vs : List ℕ} {k : ℕ} → ◌≡◌ {A = Answer} (yes_with vs) (no_by k) → 0 < k → ⊥
 not_no e p = let z = ap (λ (a : Answer). a.number) e in omega arith
 
-pub led_setup : (n m : ℕ) (ws ws' : List ℕ) → SetupSays ws n m SetupDone ws' → Led n m [] ws'
+pub led_setup : (n m : ℕ) (ws ws' : List ℕ) → SetupSays ws n m (Ok tt) ws' → Led n m [] ws'
 led_setup n m ws ws' s = go (limits_or n m) (lt_or (length ws) (need n m))
   where
     go : (Limits n m → ⊥) ⊎ Limits n m → (length ws < need n m) ⊎ (need n m ≤ length ws) → Led n m [] ws'
@@ -152,7 +145,7 @@ led_setup n m ws ws' s = go (limits_or n m) (lt_or (length ws) (need n m))
           fresh,
           refl,
           record {
-            run = run_setup ws n m SetupDone ws' s l h;
+            run = run_setup ws n m (Ok tt) ws' s l h;
             n_is = ap (λ (k : Head). k.n) o.limits;
             m_is = ap (λ (k : Head). k.m) o.limits;
             nodes = refl;
@@ -171,7 +164,7 @@ some_number NotRebuilt = omega arith
 some_number TooLong = omega arith
 some_number BrokenWords = omega arith
 
-pub setup_stays : (n m : ℕ) (q : Refusal) (ws ws' : List ℕ) → SetupSays ws n m (SetupNot q) ws' → ws' ≡ ws
+pub setup_stays : (n m : ℕ) (q : Refusal) (ws ws' : List ℕ) → SetupSays ws n m (Err q) ws' → ws' ≡ ws
 setup_stays n m q ws ws' s = go (limits_or n m) (lt_or (length ws) (need n m))
   where
     go : (Limits n m → ⊥) ⊎ Limits n m → (length ws < need n m) ⊎ (need n m ≤ length ws) → ws' ≡ ws
@@ -188,22 +181,22 @@ module _ {n m : ℕ} {cs : List Call} {ws : List ℕ} (l : Led n m cs ws) where
   add_then f w v x i I p q = go (kept_for l.0 x) refl
     where
       go : (o : Option ℕ) → kept_for l.0 x ≡ o → f (Machine.add l.0 x).graph ≡ when (ℕ_discrete i (length (nodes_of cs))) w v
-      go (some k) e =
+      go (Some k) e =
           let z : i ≢ length (nodes_of cs) = λ a. omega (arith, I.old k e, ap length l.2.nodes) in
           ap f (add_same l.0 x k e) ∙ q ∙ sym (when_no (ℕ_discrete i (length (nodes_of cs))) w v z)
-      go none e =
+      go None e =
           let z : i ≡ length (nodes_of cs) = I.new e ∙ ap length l.2.nodes in
           ap f (add_grows l.0 x e) ∙ p ∙ sym (when_yes (ℕ_discrete i (length (nodes_of cs))) w v z)
 
-  pub led_adding : (id : Graph → ℕ) (x : Node) (r : AddAnswer) (ws' : List ℕ) → Ids l.0 (node_of x) (id l.0) → AddingSays id ws x r ws' → Led n m (after_add cs (node_of x) r) ws'
+  pub led_adding : (id : Graph → ℕ) (x : Node) (r : Result Id Refusal) (ws' : List ℕ) → Ids l.0 (node_of x) (id l.0) → AddingSays id ws x r ws' → Led n m (after_add cs (node_of x) r) ws'
   led_adding id x r ws' I s = go r (adding_ends (unions_of cs) ws l.0 l.2.run id x r ws' s)
     where
-      go : (r : AddAnswer) → Refused (add_says r) (ws' ≡ ws) ⊎ Goes ws (add_says r) (id l.0 ∷ []) ws' (unions_of cs) (Machine.add l.0 (node_of x)).graph
+      go : (r : Result Id Refusal) → Refused (id_says r) (ws' ≡ ws) ⊎ Goes ws (id_says r) (id l.0 ∷ []) ws' (unions_of cs) (Machine.add l.0 (node_of x)).graph
           → Led n m (after_add cs (node_of x) r) ws'
-      go (AddNot q) (inl p) = stays l p.same
-      go (AddNot q) (inr o) = absurd (never (number_of q) _ (sym o.answer))
-      go (AddId i) (inl p) = absurd (never p.number i.0 p.is)
-      go (AddId i) (inr o) =
+      go (Err q) (inl p) = stays l p.same
+      go (Err q) (inr o) = absurd (never (number_of q) _ (sym o.answer))
+      go (Ok i) (inl p) = absurd (never p.number i.0 p.is)
+      go (Ok i) (inr o) =
           let e : id l.0 ≡ i.0 = sym (ap (λ (a : Answer). at a.values 0) o.answer) in
           let J : Ids l.0 (node_of x) i.0 = subst (Ids l.0 (node_of x)) e I in (
             (Machine.add l.0 (node_of x)).graph,
@@ -218,13 +211,13 @@ module _ {n m : ℕ} {cs : List Call} {ws : List ℕ} (l : Led n m cs ws) where
             },
           )
 
-  pub led_union : (i j : ℕ) (r : UnionAnswer) (ws' : List ℕ) → UnionSays ws i j r ws' → Led n m (after_union cs i j r) ws'
+  pub led_union : (i j : ℕ) (r : Result Bool Refusal) (ws' : List ℕ) → UnionSays ws i j r ws' → Led n m (after_union cs i j r) ws'
   led_union i j r ws' s = go r (union_ends (unions_of cs) ws l.0 l.2.run i j r ws' s)
     where
-      Next : UnionAnswer → Type 0
-      Next r = Goes ws (union_says r) (flag (Machine.union l.0 i j).answer) ws' (unions_of cs ++ ((i, j) ∷ [])) (Machine.union l.0 i j).graph
+      Next : Result Bool Refusal → Type 0
+      Next r = Goes ws (flag_says r) (flag (Machine.union l.0 i j).answer) ws' (unions_of cs ++ ((i, j) ∷ [])) (Machine.union l.0 i j).graph
 
-      joined : (r : UnionAnswer) → Next r → Led n m (did_union i j ∷ cs) ws'
+      joined : (r : Result Bool Refusal) → Next r → Led n m (did_union i j ∷ cs) ws'
       joined r o = (
         (Machine.union l.0 i j).graph,
         (l.0, l.1, refl),
@@ -241,20 +234,20 @@ module _ {n m : ℕ} {cs : List Call} {ws : List ℕ} (l : Led n m cs ws) where
       some_flag true {k} e = never k 1 (sym e)
       some_flag false {k} e = never k 0 (sym e)
 
-      go : (r : UnionAnswer) → Refused (union_says r) (ws' ≡ ws) ⊎ Next r → Led n m (after_union cs i j r) ws'
-      go (UnionNot q) (inl p) = stays l p.same
-      go (UnionNot q) (inr o) = absurd (some_flag (Machine.union l.0 i j).answer o.answer)
-      go UnionYes (inl p) = absurd (never p.number 1 p.is)
-      go UnionYes (inr o) = joined UnionYes o
-      go UnionNo (inl p) = absurd (never p.number 0 p.is)
-      go UnionNo (inr o) = joined UnionNo o
+      go : (r : Result Bool Refusal) → Refused (flag_says r) (ws' ≡ ws) ⊎ Next r → Led n m (after_union cs i j r) ws'
+      go (Err q) (inl p) = stays l p.same
+      go (Err q) (inr o) = absurd (some_flag (Machine.union l.0 i j).answer o.answer)
+      go (Ok true) (inl p) = absurd (never p.number 1 p.is)
+      go (Ok true) (inr o) = joined (Ok true) o
+      go (Ok false) (inl p) = absurd (never p.number 0 p.is)
+      go (Ok false) (inr o) = joined (Ok false) o
 
-  pub led_rebuild : (r : CountAnswer) (ws' : List ℕ) → RebuildSays ws r ws' → Led n m (after_rebuild cs r) ws'
+  pub led_rebuild : (r : Result ℕ Refusal) (ws' : List ℕ) → RebuildSays ws r ws' → Led n m (after_rebuild cs r) ws'
   led_rebuild r ws' s = let E = ends l.2.run.made in go r E.0 E.1 E.2 E.3 (rebuild_held (unions_of cs) ws l.0 l.2.run r ws' s E.0 E.1 E.2 E.3)
     where
-      go : (r : CountAnswer) (y t : ℕ) (z : Graph) → Rebuild l.0 y t z → Goes ws (count_says r) (y ∷ []) ws' (unions_of cs) z → Led n m (after_rebuild cs r) ws'
-      go (CountNot q) y t z R o = absurd (never (number_of q) y (sym o.answer))
-      go (CountIs k) y t z R o = (
+      go : (r : Result ℕ Refusal) (y t : ℕ) (z : Graph) → Rebuild l.0 y t z → Goes ws (count_says r) (y ∷ []) ws' (unions_of cs) z → Led n m (after_rebuild cs r) ws'
+      go (Err q) y t z R o = absurd (never (number_of q) y (sym o.answer))
+      go (Ok k) y t z R o = (
         z,
         (l.0, l.1, (y, t, R)),
         record {

@@ -1,9 +1,10 @@
 -- Call by call: `setup` makes words that hold the fresh graph, and each call takes words that hold a made graph to words that hold a made graph; so demand 3 speaks of the
 -- words: what `find` answers. Whole runs of calls are the subject of Reached and Behind.
 -- Assumes nothing.
-use Rattle.std.specs.Prelude.{true, List, [], ◌++◌, ◌∷◌, ◌↔◌, ◌⊎◌, ◌≡◌, ◌<◌, ◌≤◌, suc, ℕ, length}
+use Rattle.egraph.specs.declared.Refusal.{Refusal}
+use Rattle.language.specs.declared.Id.{Id}
+use Rattle.std.specs.Prelude.{Bool, Result, true, List, [], ◌++◌, ◌∷◌, ◌↔◌, ◌⊎◌, ◌≡◌, ◌<◌, ◌≤◌, suc, ℕ, length, Option, None, Some}
 use Rattle.std.proofs.Common.{inl, inr, ◌∙◌, ap, subst, sym, arith}
-use Rattle.std.proofs.Math.Option.{Option, none, some}
 use Rattle.std.proofs.Math.Path.{refl}
 use Rattle.lists.specs.Members.{Mem, mem-cases, mem-nil}
 use Rattle.lists.specs.Reads.{at}
@@ -17,16 +18,11 @@ use Rattle.closure.specs.Closed.{again, demand_3, sound}
 use Rattle.closure.specs.Ends.{ends}
 use Rattle.adding.specs.Says.{Known, Room, kept_for}
 use Rattle.egraph.specs.Adds.{Adding, AddingSays, given_old}
-use Rattle.egraph.specs.Answers.{Answer, SameLimits, add_says, count_says, find_says, flag, head_of, union_says, yes_with}
+use Rattle.egraph.specs.Answers.{Answer, SameLimits, id_says, count_says, flag, head_of, flag_says, yes_with}
 use Rattle.egraph.specs.Reads.{FindSays}
 use Rattle.egraph.specs.Rebuilds.{RebuildSays}
 use Rattle.egraph.specs.Setup.{Limits, SetupSays}
 use Rattle.egraph.specs.Unions.{UnionSays}
-use Rattle.egraph.specs.declared.AddAnswer.{AddAnswer}
-use Rattle.egraph.specs.declared.CountAnswer.{CountAnswer}
-use Rattle.egraph.specs.declared.FindAnswer.{FindAnswer}
-use Rattle.egraph.specs.declared.SetupAnswer.{SetupAnswer}
-use Rattle.egraph.specs.declared.UnionAnswer.{UnionAnswer}
 use Rattle.holds.specs.Holds.{Holds}
 use Rattle.layout.specs.Cut.{need}
 
@@ -44,7 +40,7 @@ pub record Run (us : List (ℕ × ℕ)) (ws : List ℕ) (g : Graph) : Type 0 whe
   pub made : Made us g
   pub holds : Holds ws g
 
-pub run_setup : (ws : List ℕ) (n m : ℕ) (r : SetupAnswer) (ws' : List ℕ) → SetupSays ws n m r ws' → Limits n m → need n m ≤ length ws → Run [] ws' fresh
+pub run_setup : (ws : List ℕ) (n m : ℕ) (r : Result Unit Refusal) (ws' : List ℕ) → SetupSays ws n m r ws' → Limits n m → need n m ≤ length ws → Run [] ws' fresh
 run_setup ws n m r ws' s l h = record { made = start; holds = ((s.on l).on h).held }
 
 module _ (us : List (ℕ × ℕ)) (ws : List ℕ) (g : Graph) (C : Run us ws g) where
@@ -52,15 +48,15 @@ module _ (us : List (ℕ × ℕ)) (ws : List ℕ) (g : Graph) (C : Run us ws g) 
   ids_in = C.holds.at_rest.ids_are
 
   -- two known ids: one union more was asked for
-  pub run_union : (i j : ℕ) (r : UnionAnswer) (ws' : List ℕ) → UnionSays ws i j r ws' → i < ids g → j < ids g
-      → (union_says r ≡ yes_with (flag (union g i j).answer)) × Run (us ++ ((i, j) ∷ [])) ws' (union g i j).graph
+  pub run_union : (i j : ℕ) (r : Result Bool Refusal) (ws' : List ℕ) → UnionSays ws i j r ws' → i < ids g → j < ids g
+      → (flag_says r ≡ yes_with (flag (union g i j).answer)) × Run (us ++ ((i, j) ∷ [])) ws' (union g i j).graph
   run_union i j r ws' s hi hj =
       let o = ((s.on C.holds.good).on (omega (arith, ids_in), omega (arith, ids_in))).sound g C.holds in
       (o.0, record { made = joined i j hi hj C.made; holds = o.1 })
 
   -- a node whose children are known, found or with room; `id` is what `add` or what `add_uncanonical` answers
-  pub run_adding : (id : Graph → ℕ) (x : Node) (r : AddAnswer) (ws' : List ℕ) → AddingSays id ws x r ws' → x.count ≤ places → Known (node_of x) (ids g) → (kept_for g (node_of x) ≡ none → Room (head_of ws) (node_of x))
-      → (add_says r ≡ yes_with (id g ∷ [])) × Run us ws' (add g (node_of x)).graph
+  pub run_adding : (id : Graph → ℕ) (x : Node) (r : Result Id Refusal) (ws' : List ℕ) → AddingSays id ws x r ws' → x.count ≤ places → Known (node_of x) (ids g) → (kept_for g (node_of x) ≡ None → Room (head_of ws) (node_of x))
+      → (id_says r ≡ yes_with (id g ∷ [])) × Run us ws' (add g (node_of x)).graph
   unfolding add
   run_adding id x r ws' s few low room = go (kept_for g (node_of x)) refl
     where
@@ -73,25 +69,25 @@ module _ (us : List (ℕ × ℕ)) (ws : List ℕ) (g : Graph) (C : Run us ws g) 
       M : Made us (add g (node_of x)).graph
       M = added {g = g} (node_of x) (λ c m. let p = place_of (node_of x).kids c m in rw (← p.2) (low p.0 p.1)) C.made
 
-      go : (o : Option ℕ) → kept_for g (node_of x) ≡ o → (add_says r ≡ yes_with (id g ∷ [])) × Run us ws' (add g (node_of x)).graph
-      go (some i) k =
+      go : (o : Option ℕ) → kept_for g (node_of x) ≡ o → (id_says r ≡ yes_with (id g ∷ [])) × Run us ws' (add g (node_of x)).graph
+      go (Some i) k =
           let a = A.found g i C.holds k in
           let e : (add_uncanonical g (node_of x)).graph ≡ g = ap (λ (t : Given). t.graph) (given_old g (node_of x) i k) in
           (a.0, record { made = M; holds = rw e (rw a.1 C.holds) })
-      go none k = let a = A.grown g C.holds k (room k) in (a.0, record { made = M; holds = a.1 })
+      go None k = let a = A.grown g C.holds k (room k) in (a.0, record { made = M; holds = a.1 })
 
   -- a rebuild: the answer is the machine's count of yes answers
-  pub run_rebuild : (r : CountAnswer) (ws' : List ℕ) → RebuildSays ws r ws' → (y t : ℕ) (z : Graph) → Rebuild g y t z → (count_says r ≡ yes_with (y ∷ [])) × Run us ws' z
+  pub run_rebuild : (r : Result ℕ Refusal) (ws' : List ℕ) → RebuildSays ws r ws' → (y t : ℕ) (z : Graph) → Rebuild g y t z → (count_says r ≡ yes_with (y ∷ [])) × Run us ws' z
   run_rebuild r ws' s y t z R =
       let o = (s.on C.holds.good).sound g us C.holds C.made y t z R in
       (o.0, record { made = rebuilt R C.made; holds = o.1 })
 
   -- what `find` answers of a known id
-  find_is : (i : ℕ) (r : FindAnswer) → FindSays ws i r → i < ids g → find_says r ≡ yes_with (root g.roots i ∷ [])
+  find_is : (i : ℕ) (r : Result Id Refusal) → FindSays ws i r → i < ids g → id_says r ≡ yes_with (root g.roots i ∷ [])
   find_is i r s h = ((s.on C.holds.good).on (omega (arith, ids_in))).sound g C.holds
 
   -- at any moment: two ids that `find` answers alike are forced equal
-  pub words_sound : (i j : ℕ) (r r' : FindAnswer) → FindSays ws i r → FindSays ws j r' → i < ids g → j < ids g → find_says r ≡ find_says r' → Forced g.nodes us i j
+  pub words_sound : (i j : ℕ) (r r' : Result Id Refusal) → FindSays ws i r → FindSays ws j r' → i < ids g → j < ids g → id_says r ≡ id_says r' → Forced g.nodes us i j
   words_sound i j r r' s t hi hj e =
       let p = sym (find_is i r s hi) ∙ e ∙ find_is j r' t hj in
       sound C.made i j (first (root g.roots i) (root g.roots j) p)
@@ -100,12 +96,12 @@ module _ (us : List (ℕ × ℕ)) (ws : List ℕ) (g : Graph) (C : Run us ws g) 
       first a b q = ap (λ (t : Answer). at t.values 0) q
 
   -- demand 3 of the words that hold a clean graph: two ids are answered alike by `find` exactly when the unions asked for force them equal
-  pub words_demand_3 : g.clean ≡ true → (i j : ℕ) (r r' : FindAnswer) → FindSays ws i r → FindSays ws j r' → i < ids g → j < ids g → (find_says r ≡ find_says r') ↔ Forced g.nodes us i j
+  pub words_demand_3 : g.clean ≡ true → (i j : ℕ) (r r' : Result Id Refusal) → FindSays ws i r → FindSays ws j r' → i < ids g → j < ids g → (id_says r ≡ id_says r') ↔ Forced g.nodes us i j
   words_demand_3 c i j r r' s t hi hj =
       (words_sound i j r r' s t hi hj, λ f. find_is i r s hi ∙ ap (λ (k : ℕ). yes_with (k ∷ [])) ((demand_3 C.made c i j).1 f) ∙ sym (find_is j r' t hj))
 
   -- another rebuild of them answers 0, and the words hold the same graph under the same limits, so that no answer is altered
-  pub words_again : g.clean ≡ true → (r : CountAnswer) (ws' : List ℕ) → RebuildSays ws r ws' → (count_says r ≡ yes_with (0 ∷ [])) × Run us ws' g × SameLimits ws ws'
+  pub words_again : g.clean ≡ true → (r : Result ℕ Refusal) (ws' : List ℕ) → RebuildSays ws r ws' → (count_says r ≡ yes_with (0 ∷ [])) × Run us ws' g × SameLimits ws ws'
   words_again c r ws' s =
       let E = ends C.made in
       let a = again C.made c E.3 in

@@ -1,9 +1,11 @@
 -- What the three demands say, in their order: a demand is a record or two with a sentence for each call. Here stand those of any words, and what each record is of words
 -- behind which there is a graph; the theorems of words that runs of calls can have left are in proofs, Demands.
 -- Assumes nothing.
-use Rattle.std.specs.Prelude.{List, [], ◌++◌, ◌∷◌, ◌≢◌, ◌⊎◌, ◌≡◌, ◌+◌, ◌<◌, ◌≤◌, ℕ, eqb, drop, length}
+use Rattle.egraph.specs.declared.Refusal.{Refusal}
+use Rattle.language.specs.declared.Id.{Id}
+use Rattle.extract.specs.declared.Form.{Form}
+use Rattle.std.specs.Prelude.{Bool, Result, List, [], ◌++◌, ◌∷◌, ◌≢◌, ◌⊎◌, ◌≡◌, ◌+◌, ◌<◌, ◌≤◌, ℕ, eqb, drop, length, Option, None, Some}
 use Rattle.std.proofs.Common.{inl, inr, ap, arith}
-use Rattle.std.proofs.Math.Option.{Option, none, some}
 use Rattle.lists.specs.Tests.{lt_or}
 use Rattle.language.specs.Struct.{node_of}
 use Rattle.language.specs.Term.{Term, spell, words}
@@ -15,26 +17,15 @@ use Rattle.steps.specs.Machine.{Rebuild}
 use Rattle.closure.specs.Ends.{ends}
 use Rattle.adding.specs.Says.{Full, Room, kept_for}
 use Rattle.egraph.specs.Adds.{AddSays, AddingSays, LookupSays, UncanonicalSays, found_as}
-use Rattle.egraph.specs.Answers.{Answer, Else, Good, Lists, SameLimits, add_says, count_says, find_says, flag, flag_says, head_of, list_says, lookup_says, no_by, node_says, setup_says, union_says, yes_with}
+use Rattle.egraph.specs.Answers.{Answer, Else, Good, Lists, SameLimits, id_says, count_says, flag, flag_says, head_of, lookup_says, no_by, node_says, setup_says, yes_with}
 use Rattle.egraph.specs.ClassLists.{ClassesSays, ForOpSays, ListSays, TotalSays}
 use Rattle.egraph.specs.Listing.{NodeSays, NodesSays}
 use Rattle.egraph.specs.Reads.{CleanSays, CountSays, EmptySays, FindSays}
 use Rattle.egraph.specs.Rebuilds.{RebuildSays}
 use Rattle.egraph.specs.Setup.{Limits, SetupSays}
 use Rattle.egraph.specs.Unions.{UnionSays}
-use Rattle.egraph.specs.declared.AddAnswer.{AddAnswer}
-use Rattle.egraph.specs.declared.CountAnswer.{CountAnswer}
-use Rattle.egraph.specs.declared.FindAnswer.{FindAnswer}
-use Rattle.egraph.specs.declared.FlagAnswer.{FlagAnswer}
-use Rattle.egraph.specs.declared.ListAnswer.{ListAnswer}
-use Rattle.egraph.specs.declared.LookupAnswer.{LookupAnswer}
-use Rattle.egraph.specs.declared.NodeAnswer.{NodeAnswer}
-use Rattle.egraph.specs.declared.SetupAnswer.{SetupAnswer}
-use Rattle.egraph.specs.declared.UnionAnswer.{UnionAnswer}
-use Rattle.extract.specs.Cost.{CostSays, cost_says}
+use Rattle.extract.specs.Cost.{CostSays}
 use Rattle.extract.specs.Form.{FormSays, form_of, form_says}
-use Rattle.extract.specs.declared.CostAnswer.{CostAnswer}
-use Rattle.extract.specs.declared.FormAnswer.{FormAnswer}
 use Rattle.layout.specs.Cut.{need}
 use Rattle.layout.specs.declared.Head.{Head}
 use Rattle.theorems.specs.Behind.{places_are}
@@ -52,16 +43,16 @@ use Rattle.theorems.specs.Sizes.{Smallest, cost_one, made_known}
 -- That a call ends, and reads and writes inside the slices it is lent, is what the check of the code shows for each open call, and none of them asks for anything
 -- (`requires`). Of the words lent, those past the need stay, and so does their number; a slice lent for a list or a form keeps its length
 pub record Touches (ws : List ℕ) : Type 0 where
-  pub setup : (n m : ℕ) (r : SetupAnswer) (ws' : List ℕ) → SetupSays ws n m r ws' → (length ws' ≡ length ws) × (drop (need n m) ws' ≡ drop (need n m) ws)
-  pub add : (x : Node) (r : AddAnswer) (ws' : List ℕ) → AddSays ws x r ws' → Inside ws ws'
-  pub add_uncanonical : (x : Node) (r : AddAnswer) (ws' : List ℕ) → UncanonicalSays ws x r ws' → Inside ws ws'
-  pub union : (i j : ℕ) (r : UnionAnswer) (ws' : List ℕ) → UnionSays ws i j r ws' → Inside ws ws'
-  pub rebuild : (r : CountAnswer) (ws' : List ℕ) → RebuildSays ws r ws' → Inside ws ws'
-  pub find_best_cost : (i : ℕ) (r : CostAnswer) (ws' : List ℕ) → CostSays ws i r ws' → Inside ws ws'
-  pub find_best : (i : ℕ) (out : List ℕ) (r : FormAnswer) (ws' out' : List ℕ) → FormSays ws i out r ws' out' → Inside ws ws' × (length out' ≡ length out)
-  pub nodes : (out : List ℕ) (r : ListAnswer) (out' : List ℕ) → NodesSays ws out r out' → length out' ≡ length out
-  pub classes : (out : List ℕ) (r : ListAnswer) (out' : List ℕ) → ClassesSays ws out r out' → length out' ≡ length out
-  pub classes_for_op : (op : ℕ) (out : List ℕ) (r : ListAnswer) (out' : List ℕ) → ForOpSays ws op out r out' → length out' ≡ length out
+  pub setup : (n m : ℕ) (r : Result Unit Refusal) (ws' : List ℕ) → SetupSays ws n m r ws' → (length ws' ≡ length ws) × (drop (need n m) ws' ≡ drop (need n m) ws)
+  pub add : (x : Node) (r : Result Id Refusal) (ws' : List ℕ) → AddSays ws x r ws' → Inside ws ws'
+  pub add_uncanonical : (x : Node) (r : Result Id Refusal) (ws' : List ℕ) → UncanonicalSays ws x r ws' → Inside ws ws'
+  pub union : (i j : ℕ) (r : Result Bool Refusal) (ws' : List ℕ) → UnionSays ws i j r ws' → Inside ws ws'
+  pub rebuild : (r : Result ℕ Refusal) (ws' : List ℕ) → RebuildSays ws r ws' → Inside ws ws'
+  pub find_best_cost : (i : ℕ) (r : Result ℕ Refusal) (ws' : List ℕ) → CostSays ws i r ws' → Inside ws ws'
+  pub find_best : (i : ℕ) (out : List ℕ) (r : Result Form Refusal) (ws' out' : List ℕ) → FormSays ws i out r ws' out' → Inside ws ws' × (length out' ≡ length out)
+  pub nodes : (out : List ℕ) (r : Result ℕ Refusal) (out' : List ℕ) → NodesSays ws out r out' → length out' ≡ length out
+  pub classes : (out : List ℕ) (r : Result ℕ Refusal) (out' : List ℕ) → ClassesSays ws out r out' → length out' ≡ length out
+  pub classes_for_op : (op : ℕ) (out : List ℕ) (r : Result ℕ Refusal) (out' : List ℕ) → ForOpSays ws op out r out' → length out' ≡ length out
 
 pub demand_1_any_words : (ws : List ℕ) → Touches ws
 demand_1_any_words ws = record {
@@ -82,22 +73,22 @@ demand_1_any_words ws = record {
 
 -- on any words: too few of them for the head or for its limits, or numbers in it that are out of range, and every call but setup is refused by 3, with nothing changed
 pub record Shut (ws : List ℕ) : Type 0 where
-  pub find : (i : ℕ) (r : FindAnswer) → FindSays ws i r → find_says r ≡ no_by 3
-  pub lookup : (x : Node) (r : LookupAnswer) → LookupSays ws x r → lookup_says r ≡ no_by 3
-  pub add : (x : Node) (r : AddAnswer) (ws' : List ℕ) → AddSays ws x r ws' → No (add_says r) (ws' ≡ ws) 3
-  pub add_uncanonical : (x : Node) (r : AddAnswer) (ws' : List ℕ) → UncanonicalSays ws x r ws' → No (add_says r) (ws' ≡ ws) 3
-  pub union : (i j : ℕ) (r : UnionAnswer) (ws' : List ℕ) → UnionSays ws i j r ws' → No (union_says r) (ws' ≡ ws) 3
-  pub rebuild : (r : CountAnswer) (ws' : List ℕ) → RebuildSays ws r ws' → No (count_says r) (ws' ≡ ws) 3
-  pub classes : (out : List ℕ) (r : ListAnswer) (out' : List ℕ) → ClassesSays ws out r out' → No (list_says r) (out' ≡ out) 3
-  pub classes_for_op : (op : ℕ) (out : List ℕ) (r : ListAnswer) (out' : List ℕ) → ForOpSays ws op out r out' → No (list_says r) (out' ≡ out) 3
-  pub nodes : (out : List ℕ) (r : ListAnswer) (out' : List ℕ) → NodesSays ws out r out' → No (list_says r) (out' ≡ out) 3
-  pub id_to_node : (i : ℕ) (r : NodeAnswer) → NodeSays ws i r → node_says r ≡ no_by 3
-  pub is_empty : (r : FlagAnswer) → EmptySays ws r → flag_says r ≡ no_by 3
-  pub number_of_classes : (r : CountAnswer) → CountSays ws r → count_says r ≡ no_by 3
-  pub total_number_of_nodes : (r : CountAnswer) → TotalSays ws r → count_says r ≡ no_by 3
-  pub clean : (r : FlagAnswer) → CleanSays ws r → flag_says r ≡ no_by 3
-  pub find_best_cost : (i : ℕ) (r : CostAnswer) (ws' : List ℕ) → CostSays ws i r ws' → No (cost_says r) (ws' ≡ ws) 3
-  pub find_best : (i : ℕ) (out : List ℕ) (r : FormAnswer) (ws' out' : List ℕ) → FormSays ws i out r ws' out' → No (form_says r) (out' ≡ out) 3 × (ws' ≡ ws)
+  pub find : (i : ℕ) (r : Result Id Refusal) → FindSays ws i r → id_says r ≡ no_by 3
+  pub lookup : (x : Node) (r : Result (Option Id) Refusal) → LookupSays ws x r → lookup_says r ≡ no_by 3
+  pub add : (x : Node) (r : Result Id Refusal) (ws' : List ℕ) → AddSays ws x r ws' → No (id_says r) (ws' ≡ ws) 3
+  pub add_uncanonical : (x : Node) (r : Result Id Refusal) (ws' : List ℕ) → UncanonicalSays ws x r ws' → No (id_says r) (ws' ≡ ws) 3
+  pub union : (i j : ℕ) (r : Result Bool Refusal) (ws' : List ℕ) → UnionSays ws i j r ws' → No (flag_says r) (ws' ≡ ws) 3
+  pub rebuild : (r : Result ℕ Refusal) (ws' : List ℕ) → RebuildSays ws r ws' → No (count_says r) (ws' ≡ ws) 3
+  pub classes : (out : List ℕ) (r : Result ℕ Refusal) (out' : List ℕ) → ClassesSays ws out r out' → No (count_says r) (out' ≡ out) 3
+  pub classes_for_op : (op : ℕ) (out : List ℕ) (r : Result ℕ Refusal) (out' : List ℕ) → ForOpSays ws op out r out' → No (count_says r) (out' ≡ out) 3
+  pub nodes : (out : List ℕ) (r : Result ℕ Refusal) (out' : List ℕ) → NodesSays ws out r out' → No (count_says r) (out' ≡ out) 3
+  pub id_to_node : (i : ℕ) (r : Result Node Refusal) → NodeSays ws i r → node_says r ≡ no_by 3
+  pub is_empty : (r : Result Bool Refusal) → EmptySays ws r → flag_says r ≡ no_by 3
+  pub number_of_classes : (r : Result ℕ Refusal) → CountSays ws r → count_says r ≡ no_by 3
+  pub total_number_of_nodes : (r : Result ℕ Refusal) → TotalSays ws r → count_says r ≡ no_by 3
+  pub clean : (r : Result Bool Refusal) → CleanSays ws r → flag_says r ≡ no_by 3
+  pub find_best_cost : (i : ℕ) (r : Result ℕ Refusal) (ws' : List ℕ) → CostSays ws i r ws' → No (count_says r) (ws' ≡ ws) 3
+  pub find_best : (i : ℕ) (out : List ℕ) (r : Result Form Refusal) (ws' out' : List ℕ) → FormSays ws i out r ws' out' → No (form_says r) (out' ≡ out) 3 × (ws' ≡ ws)
 
 pub demand_1_short : (ws : List ℕ) → (Good ws → ⊥) → Shut ws
 demand_1_short ws b = record {
@@ -142,7 +133,7 @@ APlace n m g x = (ids g < n) × (child_places g.nodes + length x.kids ≤ m)
 abbrev pub AddLadder : ℕ → ℕ → Graph → Node → (ℕ → Type 0) → Type 0 → Type 0
 AddLadder n m g x No Next =
     GivenLadder g x No
-    (Else ((kept_for g (node_of x) ≡ none) × NoPlace n m g (node_of x)) (No 6) ((kept_for g (node_of x) ≢ none) ⊎ APlace n m g (node_of x))
+    (Else ((kept_for g (node_of x) ≡ None) × NoPlace n m g (node_of x)) (No 6) ((kept_for g (node_of x) ≢ None) ⊎ APlace n m g (node_of x))
     Next)
 
 abbrev pub LongLadder : List ℕ → List ℕ → Type 0 → Type 0 → Type 0
@@ -151,31 +142,31 @@ LongLadder xs out No8 Next = Else (length out < length xs) No8 (length xs ≤ le
 -- under the limits n and m, each refusal by its number exactly when document 01 says, in its order, and nothing has changed; else accepted. g is the graph of the run: its
 -- ids are the nodes that have one, and it is clean where a rebuild has ended and no node or union has come since (`Behind`)
 pub record Refuses (n m : ℕ) (g : Graph) (ws : List ℕ) : Type 0 where
-  pub find : (i : ℕ) (r : FindAnswer) → FindSays ws i r → Not9 (find_says r) × IdLadder g i (find_says r ≡ no_by 4) (Accepted (find_says r))
-  pub lookup : (x : Node) (r : LookupAnswer) → LookupSays ws x r → Not9 (lookup_says r) × GivenLadder g x (λ k. lookup_says r ≡ no_by k) (Accepted (lookup_says r))
-  pub add : (x : Node) (r : AddAnswer) (ws' : List ℕ) → AddSays ws x r ws' → Fair (add_says r) (ws' ≡ ws) × AddLadder n m g x (No (add_says r) (ws' ≡ ws)) (Accepted (add_says r))
-  pub add_uncanonical : (x : Node) (r : AddAnswer) (ws' : List ℕ) → UncanonicalSays ws x r ws'
-      → Fair (add_says r) (ws' ≡ ws) × AddLadder n m g x (No (add_says r) (ws' ≡ ws)) (Accepted (add_says r))
-  pub union : (i j : ℕ) (r : UnionAnswer) (ws' : List ℕ) → UnionSays ws i j r ws'
-      → Fair (union_says r) (ws' ≡ ws)
-      × Else ((ids g ≤ i) ⊎ (ids g ≤ j)) (No (union_says r) (ws' ≡ ws) 4) ((i < ids g) × (j < ids g)) (Accepted (union_says r))
-  pub rebuild : (r : CountAnswer) (ws' : List ℕ) → RebuildSays ws r ws' → Accepted (count_says r)
-  pub classes : (out : List ℕ) (r : ListAnswer) (out' : List ℕ) → ClassesSays ws out r out'
-      → Fair (list_says r) (out' ≡ out)
-      × CleanLadder g (No (list_says r) (out' ≡ out) 7) (LongLadder (Classes.classes g) out (No (list_says r) (out' ≡ out) 8) (Accepted (list_says r)))
-  pub classes_for_op : (op : ℕ) (out : List ℕ) (r : ListAnswer) (out' : List ℕ) → ForOpSays ws op out r out'
-      → Fair (list_says r) (out' ≡ out)
-      × CleanLadder g (No (list_says r) (out' ≡ out) 7) (LongLadder (Classes.classes_for_op g op) out (No (list_says r) (out' ≡ out) 8) (Accepted (list_says r)))
-  pub nodes : (out : List ℕ) (r : ListAnswer) (out' : List ℕ) → NodesSays ws out r out'
-      → Fair (list_says r) (out' ≡ out) × LongLadder (Classes.nodes g) out (No (list_says r) (out' ≡ out) 8) (Accepted (list_says r))
-  pub id_to_node : (i : ℕ) (r : NodeAnswer) → NodeSays ws i r → Not9 (node_says r) × IdLadder g i (node_says r ≡ no_by 4) (Accepted (node_says r))
-  pub is_empty : (r : FlagAnswer) → EmptySays ws r → Accepted (flag_says r)
-  pub number_of_classes : (r : CountAnswer) → CountSays ws r → Accepted (count_says r)
-  pub total_number_of_nodes : (r : CountAnswer) → TotalSays ws r → Not9 (count_says r) × CleanLadder g (count_says r ≡ no_by 7) (Accepted (count_says r))
-  pub clean : (r : FlagAnswer) → CleanSays ws r → Accepted (flag_says r)
-  pub find_best_cost : (i : ℕ) (r : CostAnswer) (ws' : List ℕ) → CostSays ws i r ws'
-      → Not9 (cost_says r) × (ws' ≡ ws) × IdLadder g i (cost_says r ≡ no_by 4) (CleanLadder g (cost_says r ≡ no_by 7) (Accepted (cost_says r)))
-  pub find_best : (i : ℕ) (out : List ℕ) (r : FormAnswer) (ws' out' : List ℕ) → FormSays ws i out r ws' out'
+  pub find : (i : ℕ) (r : Result Id Refusal) → FindSays ws i r → Not9 (id_says r) × IdLadder g i (id_says r ≡ no_by 4) (Accepted (id_says r))
+  pub lookup : (x : Node) (r : Result (Option Id) Refusal) → LookupSays ws x r → Not9 (lookup_says r) × GivenLadder g x (λ k. lookup_says r ≡ no_by k) (Accepted (lookup_says r))
+  pub add : (x : Node) (r : Result Id Refusal) (ws' : List ℕ) → AddSays ws x r ws' → Fair (id_says r) (ws' ≡ ws) × AddLadder n m g x (No (id_says r) (ws' ≡ ws)) (Accepted (id_says r))
+  pub add_uncanonical : (x : Node) (r : Result Id Refusal) (ws' : List ℕ) → UncanonicalSays ws x r ws'
+      → Fair (id_says r) (ws' ≡ ws) × AddLadder n m g x (No (id_says r) (ws' ≡ ws)) (Accepted (id_says r))
+  pub union : (i j : ℕ) (r : Result Bool Refusal) (ws' : List ℕ) → UnionSays ws i j r ws'
+      → Fair (flag_says r) (ws' ≡ ws)
+      × Else ((ids g ≤ i) ⊎ (ids g ≤ j)) (No (flag_says r) (ws' ≡ ws) 4) ((i < ids g) × (j < ids g)) (Accepted (flag_says r))
+  pub rebuild : (r : Result ℕ Refusal) (ws' : List ℕ) → RebuildSays ws r ws' → Accepted (count_says r)
+  pub classes : (out : List ℕ) (r : Result ℕ Refusal) (out' : List ℕ) → ClassesSays ws out r out'
+      → Fair (count_says r) (out' ≡ out)
+      × CleanLadder g (No (count_says r) (out' ≡ out) 7) (LongLadder (Classes.classes g) out (No (count_says r) (out' ≡ out) 8) (Accepted (count_says r)))
+  pub classes_for_op : (op : ℕ) (out : List ℕ) (r : Result ℕ Refusal) (out' : List ℕ) → ForOpSays ws op out r out'
+      → Fair (count_says r) (out' ≡ out)
+      × CleanLadder g (No (count_says r) (out' ≡ out) 7) (LongLadder (Classes.classes_for_op g op) out (No (count_says r) (out' ≡ out) 8) (Accepted (count_says r)))
+  pub nodes : (out : List ℕ) (r : Result ℕ Refusal) (out' : List ℕ) → NodesSays ws out r out'
+      → Fair (count_says r) (out' ≡ out) × LongLadder (Classes.nodes g) out (No (count_says r) (out' ≡ out) 8) (Accepted (count_says r))
+  pub id_to_node : (i : ℕ) (r : Result Node Refusal) → NodeSays ws i r → Not9 (node_says r) × IdLadder g i (node_says r ≡ no_by 4) (Accepted (node_says r))
+  pub is_empty : (r : Result Bool Refusal) → EmptySays ws r → Accepted (flag_says r)
+  pub number_of_classes : (r : Result ℕ Refusal) → CountSays ws r → Accepted (count_says r)
+  pub total_number_of_nodes : (r : Result ℕ Refusal) → TotalSays ws r → Not9 (count_says r) × CleanLadder g (count_says r ≡ no_by 7) (Accepted (count_says r))
+  pub clean : (r : Result Bool Refusal) → CleanSays ws r → Accepted (flag_says r)
+  pub find_best_cost : (i : ℕ) (r : Result ℕ Refusal) (ws' : List ℕ) → CostSays ws i r ws'
+      → Not9 (count_says r) × (ws' ≡ ws) × IdLadder g i (count_says r ≡ no_by 4) (CleanLadder g (count_says r ≡ no_by 7) (Accepted (count_says r)))
+  pub find_best : (i : ℕ) (out : List ℕ) (r : Result Form Refusal) (ws' out' : List ℕ) → FormSays ws i out r ws' out'
       → Fair (form_says r) (out' ≡ out) × (ws' ≡ ws)
       × IdLadder g i (No (form_says r) (out' ≡ out) 4)
       (CleanLadder g (No (form_says r) (out' ≡ out) 7) (LongLadder (form_of g i) out (No (form_says r) (out' ≡ out) 8) (Accepted (form_says r))))
@@ -198,7 +189,7 @@ answer (inl p) e = absurd (omega (arith, p.some, ap (λ (a : Answer). a.number) 
 answer (inr x) e = x
 
 -- setup, on any words
-pub demand_1_setup : (ws : List ℕ) (n m : ℕ) (r : SetupAnswer) (ws' : List ℕ) → SetupSays ws n m r ws'
+pub demand_1_setup : (ws : List ℕ) (n m : ℕ) (r : Result Unit Refusal) (ws' : List ℕ) → SetupSays ws n m r ws'
     → Fair (setup_says r) (ws' ≡ ws)
     × Else (Limits n m → ⊥) (No (setup_says r) (ws' ≡ ws) 1) (Limits n m)
     (Else (length ws < need n m) (No (setup_says r) (ws' ≡ ws) 2) (need n m ≤ length ws) (Accepted (setup_says r)))
@@ -207,7 +198,7 @@ demand_1_setup ws n m r ws' s = (
   onto (λ t. onto (λ o. accepted o.done) t) s,
 )
 
-long : (xs out : List ℕ) (r : ListAnswer) (out' : List ℕ) → Lists xs out r out' → LongLadder xs out (No (list_says r) (out' ≡ out) 8) (Accepted (list_says r))
+long : (xs out : List ℕ) (r : Result ℕ Refusal) (out' : List ℕ) → Lists xs out r out' → LongLadder xs out (No (count_says r) (out' ≡ out) 8) (Accepted (count_says r))
 long xs out r out' t = record { no = t.long; on = λ h. accepted (t.fits h).0 }
 
 module _ (n m : ℕ) (us : List (ℕ × ℕ)) (ws : List ℕ) (g : Graph) (C : Run us ws g) (l : ((head_of ws).n ≡ n) × ((head_of ws).m ≡ m)) where
@@ -218,22 +209,22 @@ module _ (n m : ℕ) (us : List (ℕ × ℕ)) (ws : List ℕ) (g : Graph) (C : R
   room : (x : Term) → APlace n m g x → Room (head_of ws) x
   room x h = (omega (arith, h.0, l.0, C.holds.at_rest.ids_are), omega (arith, h.1, l.1, places_are C))
 
-  add_refuses : (id : Graph → ℕ) (x : Node) (r : AddAnswer) (ws' : List ℕ) → AddingSays id ws x r ws'
-      → Fair (add_says r) (ws' ≡ ws) × AddLadder n m g x (No (add_says r) (ws' ≡ ws)) (Accepted (add_says r))
+  add_refuses : (id : Graph → ℕ) (x : Node) (r : Result Id Refusal) (ws' : List ℕ) → AddingSays id ws x r ws'
+      → Fair (id_says r) (ws' ≡ ws) × AddLadder n m g x (No (id_says r) (ws' ≡ ws)) (Accepted (id_says r))
   add_refuses id x r ws' s = (
-    fair (λ (o : Goes ws (add_says r) (id g ∷ []) ws' us (Machine.add g (node_of x)).graph). accepted o.answer) (Held.adding_ends us ws g C id x r ws' s),
+    fair (λ (o : Goes ws (id_says r) (id g ∷ []) ws' us (Machine.add g (node_of x)).graph). accepted o.answer) (Held.adding_ends us ws g C id x r ws' s),
     onto (λ t. onto (λ t. record {
       no = λ h. t.no (h.0, full (node_of x) h.1);
       on = λ h. accepted (t.on (found h)).answer;
     }) t) (Held.adding_held us ws g C id x r ws' s),
   )
     where
-      found : (kept_for g (node_of x) ≢ none) ⊎ APlace n m g (node_of x) → (kept_for g (node_of x) ≢ none) ⊎ Room (head_of ws) (node_of x)
+      found : (kept_for g (node_of x) ≢ None) ⊎ APlace n m g (node_of x) → (kept_for g (node_of x) ≢ None) ⊎ Room (head_of ws) (node_of x)
       found (inl h) = inl h
       found (inr h) = inr (room (node_of x) h)
 
-  list_refuses : (list : Graph → List ℕ) (reads : Head → List ℕ → List ℕ) (out : List ℕ) (r : ListAnswer) (out' : List ℕ) → ListSays list reads ws out r out'
-      → Fair (list_says r) (out' ≡ out) × CleanLadder g (No (list_says r) (out' ≡ out) 7) (LongLadder (list g) out (No (list_says r) (out' ≡ out) 8) (Accepted (list_says r)))
+  list_refuses : (list : Graph → List ℕ) (reads : Head → List ℕ → List ℕ) (out : List ℕ) (r : Result ℕ Refusal) (out' : List ℕ) → ListSays list reads ws out r out'
+      → Fair (count_says r) (out' ≡ out) × CleanLadder g (No (count_says r) (out' ≡ out) 7) (LongLadder (list g) out (No (count_says r) (out' ≡ out) 8) (Accepted (count_says r)))
   list_refuses list reads out r out' s = (
     fair (λ (o : Written (list g) out r out'). accepted o.0) (Held.list_ends us ws g C list reads out r out' s),
     onto (λ t. long (list g) out r out' t) (Held.list_is us ws g C list reads out r out' s),
@@ -246,7 +237,7 @@ module _ (n m : ℕ) (us : List (ℕ × ℕ)) (ws : List ℕ) (g : Graph) (C : R
     add = λ x r ws' s. add_refuses _ x r ws' s;
     add_uncanonical = λ x r ws' s. add_refuses _ x r ws' s;
     union = λ i j r ws' s. (
-      fair (λ (o : Goes ws (union_says r) (flag (Machine.union g i j).answer) ws' (us ++ ((i, j) ∷ [])) (Machine.union g i j).graph). accepted o.answer) (Held.union_ends us ws g C i j r ws' s),
+      fair (λ (o : Goes ws (flag_says r) (flag (Machine.union g i j).answer) ws' (us ++ ((i, j) ∷ [])) (Machine.union g i j).graph). accepted o.answer) (Held.union_ends us ws g C i j r ws' s),
       onto (λ o. accepted o.answer) (Held.union_held us ws g C i j r ws' s),
     );
     rebuild = λ r ws' s. let E = ends C.made in accepted (Held.rebuild_held us ws g C r ws' s E.0 E.1 E.2 E.3).answer;
@@ -273,11 +264,11 @@ module _ (n m : ℕ) (us : List (ℕ × ℕ)) (ws : List ℕ) (g : Graph) (C : R
     );
   }
     where
-      found_accepted : (r : LookupAnswer) (o : Option ℕ) → lookup_says r ≡ found_as o → Accepted (lookup_says r)
-      found_accepted r none e = accepted e
-      found_accepted r (some k) e = accepted e
+      found_accepted : (r : Result (Option Id) Refusal) (o : Option ℕ) → lookup_says r ≡ found_as o → Accepted (lookup_says r)
+      found_accepted r None e = accepted e
+      found_accepted r (Some k) e = accepted e
 
-      form_long : (i : ℕ) (out : List ℕ) (r : FormAnswer) (out' : List ℕ) → BestForm g i out r out' → LongLadder (form_of g i) out (No (form_says r) (out' ≡ out) 8) (Accepted (form_says r))
+      form_long : (i : ℕ) (out : List ℕ) (r : Result Form Refusal) (out' : List ℕ) → BestForm g i out r out' → LongLadder (form_of g i) out (No (form_says r) (out' ≡ out) 8) (Accepted (form_says r))
       form_long i out r out' b =
           let e : length (spell b.nodes) ≡ length (form_of g i) = ap length b.listed in
           record { no = λ h. b.is.long (omega arith); on = λ h. accepted (b.is.fits (omega arith)).0 }
@@ -287,23 +278,23 @@ module _ (n m : ℕ) (us : List (ℕ × ℕ)) (ws : List ℕ) (g : Graph) (C : R
 
 -- what is accepted is answered as the definitions answer it of g; `Smallest` and `BestForm` say that no form of the class is smaller
 pub record Answers (g : Graph) (ws : List ℕ) : Type 0 where
-  pub find : (i : ℕ) (r : FindAnswer) → FindSays ws i r → Accepted (find_says r) → find_says r ≡ yes_with (root g.roots i ∷ [])
-  pub lookup : (x : Node) (r : LookupAnswer) → LookupSays ws x r → Accepted (lookup_says r) → lookup_says r ≡ found_as (Machine.lookup g (node_of x))
-  pub add : (x : Node) (r : AddAnswer) (ws' : List ℕ) → AddSays ws x r ws' → Accepted (add_says r) → add_says r ≡ yes_with ((Machine.add g (node_of x)).id ∷ [])
-  pub add_uncanonical : (x : Node) (r : AddAnswer) (ws' : List ℕ) → UncanonicalSays ws x r ws' → Accepted (add_says r)
-      → add_says r ≡ yes_with ((Machine.add_uncanonical g (node_of x)).id ∷ [])
-  pub union : (i j : ℕ) (r : UnionAnswer) (ws' : List ℕ) → UnionSays ws i j r ws' → Accepted (union_says r) → union_says r ≡ yes_with (flag (Machine.union g i j).answer)
-  pub rebuild : (r : CountAnswer) (ws' : List ℕ) → RebuildSays ws r ws' → (y t : ℕ) (h : Graph) → Rebuild g y t h → count_says r ≡ yes_with (y ∷ [])
-  pub classes : (out : List ℕ) (r : ListAnswer) (out' : List ℕ) → ClassesSays ws out r out' → Accepted (list_says r) → Written (Classes.classes g) out r out'
-  pub classes_for_op : (op : ℕ) (out : List ℕ) (r : ListAnswer) (out' : List ℕ) → ForOpSays ws op out r out' → Accepted (list_says r) → Written (Classes.classes_for_op g op) out r out'
-  pub nodes : (out : List ℕ) (r : ListAnswer) (out' : List ℕ) → NodesSays ws out r out' → Accepted (list_says r) → Written (Classes.nodes g) out r out'
-  pub id_to_node : (i : ℕ) (r : NodeAnswer) → NodeSays ws i r → Accepted (node_says r) → node_says r ≡ yes_with (words (node g.nodes i))
-  pub is_empty : (r : FlagAnswer) → EmptySays ws r → flag_says r ≡ yes_with (flag (eqb (ids g) 0))
-  pub number_of_classes : (r : CountAnswer) → CountSays ws r → count_says r ≡ yes_with (Classes.number_of_classes g ∷ [])
-  pub total_number_of_nodes : (r : CountAnswer) → TotalSays ws r → Accepted (count_says r) → count_says r ≡ yes_with (Classes.total_number_of_nodes g ∷ [])
-  pub clean : (r : FlagAnswer) → CleanSays ws r → flag_says r ≡ yes_with (flag g.clean)
-  pub find_best_cost : (i : ℕ) (r : CostAnswer) (ws' : List ℕ) → CostSays ws i r ws' → Accepted (cost_says r) → Smallest g i r
-  pub find_best : (i : ℕ) (out : List ℕ) (r : FormAnswer) (ws' out' : List ℕ) → FormSays ws i out r ws' out' → Accepted (form_says r) → BestForm g i out r out'
+  pub find : (i : ℕ) (r : Result Id Refusal) → FindSays ws i r → Accepted (id_says r) → id_says r ≡ yes_with (root g.roots i ∷ [])
+  pub lookup : (x : Node) (r : Result (Option Id) Refusal) → LookupSays ws x r → Accepted (lookup_says r) → lookup_says r ≡ found_as (Machine.lookup g (node_of x))
+  pub add : (x : Node) (r : Result Id Refusal) (ws' : List ℕ) → AddSays ws x r ws' → Accepted (id_says r) → id_says r ≡ yes_with ((Machine.add g (node_of x)).id ∷ [])
+  pub add_uncanonical : (x : Node) (r : Result Id Refusal) (ws' : List ℕ) → UncanonicalSays ws x r ws' → Accepted (id_says r)
+      → id_says r ≡ yes_with ((Machine.add_uncanonical g (node_of x)).id ∷ [])
+  pub union : (i j : ℕ) (r : Result Bool Refusal) (ws' : List ℕ) → UnionSays ws i j r ws' → Accepted (flag_says r) → flag_says r ≡ yes_with (flag (Machine.union g i j).answer)
+  pub rebuild : (r : Result ℕ Refusal) (ws' : List ℕ) → RebuildSays ws r ws' → (y t : ℕ) (h : Graph) → Rebuild g y t h → count_says r ≡ yes_with (y ∷ [])
+  pub classes : (out : List ℕ) (r : Result ℕ Refusal) (out' : List ℕ) → ClassesSays ws out r out' → Accepted (count_says r) → Written (Classes.classes g) out r out'
+  pub classes_for_op : (op : ℕ) (out : List ℕ) (r : Result ℕ Refusal) (out' : List ℕ) → ForOpSays ws op out r out' → Accepted (count_says r) → Written (Classes.classes_for_op g op) out r out'
+  pub nodes : (out : List ℕ) (r : Result ℕ Refusal) (out' : List ℕ) → NodesSays ws out r out' → Accepted (count_says r) → Written (Classes.nodes g) out r out'
+  pub id_to_node : (i : ℕ) (r : Result Node Refusal) → NodeSays ws i r → Accepted (node_says r) → node_says r ≡ yes_with (words (node g.nodes i))
+  pub is_empty : (r : Result Bool Refusal) → EmptySays ws r → flag_says r ≡ yes_with (flag (eqb (ids g) 0))
+  pub number_of_classes : (r : Result ℕ Refusal) → CountSays ws r → count_says r ≡ yes_with (Classes.number_of_classes g ∷ [])
+  pub total_number_of_nodes : (r : Result ℕ Refusal) → TotalSays ws r → Accepted (count_says r) → count_says r ≡ yes_with (Classes.total_number_of_nodes g ∷ [])
+  pub clean : (r : Result Bool Refusal) → CleanSays ws r → flag_says r ≡ yes_with (flag g.clean)
+  pub find_best_cost : (i : ℕ) (r : Result ℕ Refusal) (ws' : List ℕ) → CostSays ws i r ws' → Accepted (count_says r) → Smallest g i r
+  pub find_best : (i : ℕ) (out : List ℕ) (r : Result Form Refusal) (ws' out' : List ℕ) → FormSays ws i out r ws' out' → Accepted (form_says r) → BestForm g i out r out'
 
 pub answers : (us : List (ℕ × ℕ)) (ws : List ℕ) (g : Graph) → Run us ws g → Answers g ws
 answers us ws g C = record {
@@ -329,22 +320,22 @@ answers us ws g C = record {
 
 -- every call answers alike on ws and on ws', and leaves like slices
 pub record SameAnswers (ws ws' : List ℕ) : Type 0 where
-  pub find : (i : ℕ) (r r' : FindAnswer) → FindSays ws i r → FindSays ws' i r' → find_says r ≡ find_says r'
-  pub lookup : (x : Node) (r r' : LookupAnswer) → LookupSays ws x r → LookupSays ws' x r' → lookup_says r ≡ lookup_says r'
-  pub add : (x : Node) (r r' : AddAnswer) (w w' : List ℕ) → AddSays ws x r w → AddSays ws' x r' w' → add_says r ≡ add_says r'
-  pub add_uncanonical : (x : Node) (r r' : AddAnswer) (w w' : List ℕ) → UncanonicalSays ws x r w → UncanonicalSays ws' x r' w' → add_says r ≡ add_says r'
-  pub union : (i j : ℕ) (r r' : UnionAnswer) (w w' : List ℕ) → UnionSays ws i j r w → UnionSays ws' i j r' w' → union_says r ≡ union_says r'
-  pub rebuild : (r r' : CountAnswer) (w w' : List ℕ) → RebuildSays ws r w → RebuildSays ws' r' w' → count_says r ≡ count_says r'
-  pub classes : (out : List ℕ) (r r' : ListAnswer) (o o' : List ℕ) → ClassesSays ws out r o → ClassesSays ws' out r' o' → (list_says r ≡ list_says r') × (o ≡ o')
-  pub classes_for_op : (op : ℕ) (out : List ℕ) (r r' : ListAnswer) (o o' : List ℕ) → ForOpSays ws op out r o → ForOpSays ws' op out r' o' → (list_says r ≡ list_says r') × (o ≡ o')
-  pub nodes : (out : List ℕ) (r r' : ListAnswer) (o o' : List ℕ) → NodesSays ws out r o → NodesSays ws' out r' o' → (list_says r ≡ list_says r') × (o ≡ o')
-  pub id_to_node : (i : ℕ) (r r' : NodeAnswer) → NodeSays ws i r → NodeSays ws' i r' → node_says r ≡ node_says r'
-  pub is_empty : (r r' : FlagAnswer) → EmptySays ws r → EmptySays ws' r' → flag_says r ≡ flag_says r'
-  pub number_of_classes : (r r' : CountAnswer) → CountSays ws r → CountSays ws' r' → count_says r ≡ count_says r'
-  pub total_number_of_nodes : (r r' : CountAnswer) → TotalSays ws r → TotalSays ws' r' → count_says r ≡ count_says r'
-  pub clean : (r r' : FlagAnswer) → CleanSays ws r → CleanSays ws' r' → flag_says r ≡ flag_says r'
-  pub find_best_cost : (i : ℕ) (r r' : CostAnswer) (w w' : List ℕ) → CostSays ws i r w → CostSays ws' i r' w' → cost_says r ≡ cost_says r'
-  pub find_best : (i : ℕ) (out : List ℕ) (r r' : FormAnswer) (w w' o o' : List ℕ) → FormSays ws i out r w o → FormSays ws' i out r' w' o' → (form_says r ≡ form_says r') × (o ≡ o')
+  pub find : (i : ℕ) (r r' : Result Id Refusal) → FindSays ws i r → FindSays ws' i r' → id_says r ≡ id_says r'
+  pub lookup : (x : Node) (r r' : Result (Option Id) Refusal) → LookupSays ws x r → LookupSays ws' x r' → lookup_says r ≡ lookup_says r'
+  pub add : (x : Node) (r r' : Result Id Refusal) (w w' : List ℕ) → AddSays ws x r w → AddSays ws' x r' w' → id_says r ≡ id_says r'
+  pub add_uncanonical : (x : Node) (r r' : Result Id Refusal) (w w' : List ℕ) → UncanonicalSays ws x r w → UncanonicalSays ws' x r' w' → id_says r ≡ id_says r'
+  pub union : (i j : ℕ) (r r' : Result Bool Refusal) (w w' : List ℕ) → UnionSays ws i j r w → UnionSays ws' i j r' w' → flag_says r ≡ flag_says r'
+  pub rebuild : (r r' : Result ℕ Refusal) (w w' : List ℕ) → RebuildSays ws r w → RebuildSays ws' r' w' → count_says r ≡ count_says r'
+  pub classes : (out : List ℕ) (r r' : Result ℕ Refusal) (o o' : List ℕ) → ClassesSays ws out r o → ClassesSays ws' out r' o' → (count_says r ≡ count_says r') × (o ≡ o')
+  pub classes_for_op : (op : ℕ) (out : List ℕ) (r r' : Result ℕ Refusal) (o o' : List ℕ) → ForOpSays ws op out r o → ForOpSays ws' op out r' o' → (count_says r ≡ count_says r') × (o ≡ o')
+  pub nodes : (out : List ℕ) (r r' : Result ℕ Refusal) (o o' : List ℕ) → NodesSays ws out r o → NodesSays ws' out r' o' → (count_says r ≡ count_says r') × (o ≡ o')
+  pub id_to_node : (i : ℕ) (r r' : Result Node Refusal) → NodeSays ws i r → NodeSays ws' i r' → node_says r ≡ node_says r'
+  pub is_empty : (r r' : Result Bool Refusal) → EmptySays ws r → EmptySays ws' r' → flag_says r ≡ flag_says r'
+  pub number_of_classes : (r r' : Result ℕ Refusal) → CountSays ws r → CountSays ws' r' → count_says r ≡ count_says r'
+  pub total_number_of_nodes : (r r' : Result ℕ Refusal) → TotalSays ws r → TotalSays ws' r' → count_says r ≡ count_says r'
+  pub clean : (r r' : Result Bool Refusal) → CleanSays ws r → CleanSays ws' r' → flag_says r ≡ flag_says r'
+  pub find_best_cost : (i : ℕ) (r r' : Result ℕ Refusal) (w w' : List ℕ) → CostSays ws i r w → CostSays ws' i r' w' → count_says r ≡ count_says r'
+  pub find_best : (i : ℕ) (out : List ℕ) (r r' : Result Form Refusal) (w w' o o' : List ℕ) → FormSays ws i out r w o → FormSays ws' i out r' w' o' → (form_says r ≡ form_says r') × (o ≡ o')
 
 -- words that hold one made graph under the same limits
 pub same_answers : (us vs : List (ℕ × ℕ)) (ws ws' : List ℕ) (g : Graph) → Run us ws g → Run vs ws' g → SameLimits ws ws' → SameAnswers ws ws'

@@ -2,9 +2,9 @@
 -- asked class, and no form of the class is smaller; the size answered is the form's, capped at 2^64 - 1; 8 comes exactly when the slice is too short for them, and 9
 -- never. And two outcomes are one. That no word of the graph changes is in the promise itself.
 -- Assumes nothing.
-use Rattle.std.specs.Prelude.{true, List, ◌++◌, ◌⊎◌, ◌≡◌, refl, ◌<◌, ◌≤◌, min, suc, ℕ, drop, length, take}
+use Rattle.egraph.specs.declared.Refusal.{Refusal}
+use Rattle.std.specs.Prelude.{Option, None, Result, Some, true, List, ◌++◌, ◌⊎◌, ◌≡◌, refl, ◌<◌, ◌≤◌, min, suc, ℕ, drop, length, take}
 use Rattle.std.proofs.Common.{inl, inr, ◌∙◌, ap, subst, sym, take-append-drop}
-use Rattle.std.proofs.Math.Option.{Option, none, some}
 use Rattle.lists.specs.Tests.{lt_or}
 use Rattle.language.specs.Term.{Term, spell}
 use Rattle.steps.specs.Forced.{Made}
@@ -13,7 +13,7 @@ use Rattle.egraph.specs.Answers.{SameLimits}
 use Rattle.egraph.specs.ClassReads.{KidsKnown}
 use Rattle.extract.specs.Form.{FormAs, FormLists, FormSays, form_of, form_says}
 use Rattle.extract.specs.Priced.{cost_of}
-use Rattle.extract.specs.declared.FormAnswer.{FormAnswer}
+use Rattle.extract.specs.declared.Form.{Form as WrittenForm}
 use Rattle.holds.specs.Holds.{Holds}
 use Rattle.price.specs.Extract.{FormOf, listing, table}
 use Rattle.price.specs.Form.{Form, In, in_map}
@@ -59,7 +59,7 @@ listing_shows {us} {g} M i lt =
     }
 
 -- what was asked for, and what was answered: nodes that show a smallest form, and their words in the slice if it has room; they are the nodes that the definitions list
-pub record BestForm (g : Graph) (i : ℕ) (out : List ℕ) (r : FormAnswer) (out' : List ℕ) : Type 0 where
+pub record BestForm (g : Graph) (i : ℕ) (out : List ℕ) (r : Result WrittenForm Refusal) (out' : List ℕ) : Type 0 where
   pub nodes : List Term
   pub shows : Shows g (root g.roots i) nodes
   pub listed : spell nodes ≡ form_of g i
@@ -67,7 +67,7 @@ pub record BestForm (g : Graph) (i : ℕ) (out : List ℕ) (r : FormAnswer) (out
 
 module _ (us : List (ℕ × ℕ)) (ws : List ℕ) (g : Graph) (C : Run us ws g) where
   -- a known id of a clean graph: the slice has a smallest form, and no word of the graph has changed
-  pub run_form : (i : ℕ) (out : List ℕ) (r : FormAnswer) (ws' out' : List ℕ) → FormSays ws i out r ws' out' → g.clean ≡ true → i < ids g → BestForm g i out r out' × (ws' ≡ ws)
+  pub run_form : (i : ℕ) (out : List ℕ) (r : Result WrittenForm Refusal) (ws' out' : List ℕ) → FormSays ws i out r ws' out' → g.clean ≡ true → i < ids g → BestForm g i out r out' × (ws' ≡ ws)
   run_form i out r ws' out' S c lt =
       let I = C.holds.at_rest in
       let o = (((S.says.on C.holds.good).on (rw I.ids_are lt)).on (I.clean_is ∙ c)).sound g C.holds (made_known C.made) in
@@ -85,7 +85,7 @@ module _ (us : List (ℕ × ℕ)) (ws : List ℕ) (g : Graph) (C : Run us ws g) 
 -- ---- two outcomes are one
 
 -- the same form asked for, with the same room
-same_lists : (s : ℕ) (xs out : List ℕ) (r r' : FormAnswer) (o o' : List ℕ) → FormLists s xs out r o → FormLists s xs out r' o' → (form_says r ≡ form_says r') × (o ≡ o')
+same_lists : (s : ℕ) (xs out : List ℕ) (r r' : Result WrittenForm Refusal) (o o' : List ℕ) → FormLists s xs out r o → FormLists s xs out r' o' → (form_says r ≡ form_says r') × (o ≡ o')
 same_lists s xs out r r' o o' p q = go (lt_or (length out) (length xs))
   where
     go : (length out < length xs) ⊎ (length xs ≤ length out) → (form_says r ≡ form_says r') × (o ≡ o')
@@ -99,7 +99,7 @@ same_lists s xs out r r' o o' p q = go (lt_or (length out) (length xs))
         (a.0 ∙ sym b.0, sym (take-append-drop k o) ∙ ap (λ (l : List ℕ). l ++ drop k o) x ∙ ap (λ (l : List ℕ). take k o' ++ l) y ∙ take-append-drop k o')
 
 -- of two slices of words that hold one graph under the same limits: one answer, one slice, and no word of the graph has changed
-pub form_one : (ws ws' : List ℕ) (g : Graph) → Holds ws g → Holds ws' g → SameLimits ws ws' → KidsKnown g → (i : ℕ) (out : List ℕ) (r r' : FormAnswer) (ws1 ws1' out1 out1' : List ℕ)
+pub form_one : (ws ws' : List ℕ) (g : Graph) → Holds ws g → Holds ws' g → SameLimits ws ws' → KidsKnown g → (i : ℕ) (out : List ℕ) (r r' : Result WrittenForm Refusal) (ws1 ws1' out1 out1' : List ℕ)
     → FormSays ws i out r ws1 out1 → FormSays ws' i out r' ws1' out1' → One (form_says r) (form_says r') ws1 ws1' × (out1 ≡ out1')
 form_one ws ws' g H H' L K i out r r' ws1 ws1' out1 out1' S T =
     let a =
@@ -108,5 +108,5 @@ form_one ws ws' g H H' L K i out r r' ws1 ws1' out1 out1' S T =
     (left_alone ws ws' g H H' L S.same T.same a.0, a.1)
   where
     go : (b : Option (Best ℕ)) → FormAs (form_of g i) out r out1 b → FormAs (form_of g i) out r' out1' b → (form_says r ≡ form_says r') × (out1 ≡ out1')
-    go none p q = (p.0 ∙ sym q.0, p.1 ∙ sym q.1)
-    go (some b) p q = same_lists b.price (form_of g i) out r r' out1 out1' p q
+    go None p q = (p.0 ∙ sym q.0, p.1 ∙ sym q.1)
+    go (Some b) p q = same_lists b.price (form_of g i) out r r' out1 out1' p q

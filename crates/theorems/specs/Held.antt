@@ -1,9 +1,11 @@
 -- The promises in terms of the graph. On words that hold a graph which calls made there is no 3 and no 9: what is left of each ladder are the refusals that the graph and
 -- the arguments settle, each with nothing changed, and below them the answer that the definitions give.
 -- Assumes nothing.
-use Rattle.std.specs.Prelude.{false, true, List, [], ◌++◌, ◌∷◌, ◌≢◌, ◌⊎◌, ◌≡◌, refl, ◌<◌, ◌≤◌, ℕ, eqb, drop, length, take}
+use Rattle.egraph.specs.declared.Refusal.{Refusal}
+use Rattle.language.specs.declared.Id.{Id}
+use Rattle.extract.specs.declared.Form.{Form}
+use Rattle.std.specs.Prelude.{Bool, Result, false, true, List, [], ◌++◌, ◌∷◌, ◌≢◌, ◌⊎◌, ◌≡◌, refl, ◌<◌, ◌≤◌, ℕ, eqb, drop, length, take, Option, None, Some}
 use Rattle.std.proofs.Common.{inl, inr, ◌∙◌, ap, sym, arith}
-use Rattle.std.proofs.Math.Option.{Option, none, some}
 use Rattle.lists.specs.Options.{none≢some}
 use Rattle.lists.specs.Tests.{lt_or}
 use Rattle.language.specs.Struct.{node_of}
@@ -14,24 +16,14 @@ use Rattle.steps.specs.Graph.{Graph, ids, node, root}
 use Rattle.steps.specs.Machine.{Rebuild, add, lookup, union}
 use Rattle.adding.specs.Says.{Full, Known, Room, kept_for}
 use Rattle.egraph.specs.Adds.{AddingSays, LookupSays, NodeLadder, found_as}
-use Rattle.egraph.specs.Answers.{Answer, Else, Lists, SameLimits, Unless7, add_says, count_says, find_says, flag, flag_says, head_of, held_clean, list_says, lookup_says, no_by, node_says, union_says, yes_with}
+use Rattle.egraph.specs.Answers.{Answer, Else, Lists, SameLimits, Unless7, id_says, count_says, flag, flag_says, head_of, held_clean, lookup_says, no_by, node_says, yes_with}
 use Rattle.egraph.specs.ClassLists.{ListSays, TotalSays, list_held, total_held}
 use Rattle.egraph.specs.Listing.{NodeSays, NodesSays}
 use Rattle.egraph.specs.Reads.{CleanSays, CountSays, EmptySays, FindSays}
 use Rattle.egraph.specs.Rebuilds.{RebuildSays}
 use Rattle.egraph.specs.Unions.{UnionSays}
-use Rattle.egraph.specs.declared.AddAnswer.{AddAnswer}
-use Rattle.egraph.specs.declared.CountAnswer.{CountAnswer}
-use Rattle.egraph.specs.declared.FindAnswer.{FindAnswer}
-use Rattle.egraph.specs.declared.FlagAnswer.{FlagAnswer}
-use Rattle.egraph.specs.declared.ListAnswer.{ListAnswer}
-use Rattle.egraph.specs.declared.LookupAnswer.{LookupAnswer}
-use Rattle.egraph.specs.declared.NodeAnswer.{NodeAnswer}
-use Rattle.egraph.specs.declared.UnionAnswer.{UnionAnswer}
-use Rattle.extract.specs.Cost.{CostSays, cost_says}
+use Rattle.extract.specs.Cost.{CostSays}
 use Rattle.extract.specs.Form.{FormSays, form_says}
-use Rattle.extract.specs.declared.CostAnswer.{CostAnswer}
-use Rattle.extract.specs.declared.FormAnswer.{FormAnswer}
 use Rattle.layout.specs.declared.Head.{Head}
 use Rattle.theorems.specs.Course.{Run, run_adding, run_rebuild, run_union}
 use Rattle.theorems.specs.Forms.{BestForm, run_form}
@@ -82,41 +74,41 @@ module _ (us : List (ℕ × ℕ)) (ws : List ℕ) (g : Graph) (C : Run us ws g) 
 
   -- ---- reads
 
-  pub find_held : (i : ℕ) (r : FindAnswer) → FindSays ws i r → IdLadder g i (find_says r ≡ no_by 4) (find_says r ≡ yes_with (root g.roots i ∷ []))
+  pub find_held : (i : ℕ) (r : Result Id Refusal) → FindSays ws i r → IdLadder g i (id_says r ≡ no_by 4) (id_says r ≡ yes_with (root g.roots i ∷ []))
   find_held i r s = by_id i (s.on C.holds.good) (λ h o. o.sound g C.holds)
 
-  pub count_held : (r : CountAnswer) → CountSays ws r → count_says r ≡ yes_with (number_of_classes g ∷ [])
+  pub count_held : (r : Result ℕ Refusal) → CountSays ws r → count_says r ≡ yes_with (number_of_classes g ∷ [])
   count_held r s = (s.on C.holds.good).sound g C.holds
 
-  pub empty_held : (r : FlagAnswer) → EmptySays ws r → flag_says r ≡ yes_with (flag (eqb (ids g) 0))
+  pub empty_held : (r : Result Bool Refusal) → EmptySays ws r → flag_says r ≡ yes_with (flag (eqb (ids g) 0))
   empty_held r s = (s.on C.holds.good).sound g C.holds
 
-  pub clean_held : (r : FlagAnswer) → CleanSays ws r → flag_says r ≡ yes_with (flag g.clean)
+  pub clean_held : (r : Result Bool Refusal) → CleanSays ws r → flag_says r ≡ yes_with (flag g.clean)
   clean_held r s = (s.on C.holds.good).sound g C.holds
 
-  pub node_held : (i : ℕ) (r : NodeAnswer) → NodeSays ws i r → IdLadder g i (node_says r ≡ no_by 4) (node_says r ≡ yes_with (words (node g.nodes i)))
+  pub node_held : (i : ℕ) (r : Result Node Refusal) → NodeSays ws i r → IdLadder g i (node_says r ≡ no_by 4) (node_says r ≡ yes_with (words (node g.nodes i)))
   node_held i r s = by_id i (s.says.on C.holds.good) (λ h o. o.sound g C.holds)
 
-  pub nodes_held : (out : List ℕ) (r : ListAnswer) (out' : List ℕ) → NodesSays ws out r out' → Lists (nodes g) out r out'
+  pub nodes_held : (out : List ℕ) (r : Result ℕ Refusal) (out' : List ℕ) → NodesSays ws out r out' → Lists (nodes g) out r out'
   nodes_held out r out' s = (s.says.on C.holds.good).sound g C.holds
 
-  pub lookup_held : (x : Node) (r : LookupAnswer) → LookupSays ws x r → GivenLadder g x (λ k. lookup_says r ≡ no_by k) (lookup_says r ≡ found_as (lookup g (node_of x)))
+  pub lookup_held : (x : Node) (r : Result (Option Id) Refusal) → LookupSays ws x r → GivenLadder g x (λ k. lookup_says r ≡ no_by k) (lookup_says r ≡ found_as (lookup g (node_of x)))
   lookup_held x r s = by_node x (λ k. lookup_says r ≡ no_by k) s (λ few low o. o.sound g C.holds)
 
   -- ---- sizes and forms, which change no word
 
-  pub cost_held : (i : ℕ) (r : CostAnswer) (ws' : List ℕ) → CostSays ws i r ws' → IdLadder g i (cost_says r ≡ no_by 4) (CleanLadder g (cost_says r ≡ no_by 7) (Smallest g i r))
+  pub cost_held : (i : ℕ) (r : Result ℕ Refusal) (ws' : List ℕ) → CostSays ws i r ws' → IdLadder g i (count_says r ≡ no_by 4) (CleanLadder g (count_says r ≡ no_by 7) (Smallest g i r))
   cost_held i r ws' S = by_id i (S.says.on C.holds.good) (λ h s. by_clean s (λ c o. (run_cost us ws g C i r ws' S c h).0))
 
-  pub form_held : (i : ℕ) (out : List ℕ) (r : FormAnswer) (ws' out' : List ℕ) → FormSays ws i out r ws' out'
+  pub form_held : (i : ℕ) (out : List ℕ) (r : Result Form Refusal) (ws' out' : List ℕ) → FormSays ws i out r ws' out'
       → IdLadder g i (No (form_says r) (out' ≡ out) 4) (CleanLadder g (No (form_says r) (out' ≡ out) 7) (BestForm g i out r out'))
   form_held i out r ws' out' S = by_id i (S.says.on C.holds.good) (λ h s. by_clean s (λ c o. (run_form us ws g C i out r ws' out' S c h).0))
 
   -- ---- calls that change the graph
 
-  pub union_held : (i j : ℕ) (r : UnionAnswer) (ws' : List ℕ) → UnionSays ws i j r ws'
-      → Else ((ids g ≤ i) ⊎ (ids g ≤ j)) (No (union_says r) (ws' ≡ ws) 4) ((i < ids g) × (j < ids g))
-      (Goes ws (union_says r) (flag (union g i j).answer) ws' (us ++ ((i, j) ∷ [])) (union g i j).graph)
+  pub union_held : (i j : ℕ) (r : Result Bool Refusal) (ws' : List ℕ) → UnionSays ws i j r ws'
+      → Else ((ids g ≤ i) ⊎ (ids g ≤ j)) (No (flag_says r) (ws' ≡ ws) 4) ((i < ids g) × (j < ids g))
+      (Goes ws (flag_says r) (flag (union g i j).answer) ws' (us ++ ((i, j) ∷ [])) (union g i j).graph)
   union_held i j r ws' s =
       let t = s.on C.holds.good in
       record {
@@ -131,28 +123,28 @@ module _ (us : List (ℕ × ℕ)) (ws : List ℕ) (g : Graph) (C : Run us ws g) 
       far (inr h) = inr (omega (arith, ids_in))
 
   -- a node that the table has not, and no room for it: 6. `id` is what `add` or what `add_uncanonical` answers
-  pub adding_held : (id : Graph → ℕ) (x : Node) (r : AddAnswer) (ws' : List ℕ) → AddingSays id ws x r ws'
-      → GivenLadder g x (No (add_says r) (ws' ≡ ws))
-      (Else ((kept_for g (node_of x) ≡ none) × Full (head_of ws) (node_of x)) (No (add_says r) (ws' ≡ ws) 6) ((kept_for g (node_of x) ≢ none) ⊎ Room (head_of ws) (node_of x))
-      (Goes ws (add_says r) (id g ∷ []) ws' us (add g (node_of x)).graph))
-  adding_held id x r ws' s = by_node x (No (add_says r) (ws' ≡ ws)) s (λ few low A. record {
+  pub adding_held : (id : Graph → ℕ) (x : Node) (r : Result Id Refusal) (ws' : List ℕ) → AddingSays id ws x r ws'
+      → GivenLadder g x (No (id_says r) (ws' ≡ ws))
+      (Else ((kept_for g (node_of x) ≡ None) × Full (head_of ws) (node_of x)) (No (id_says r) (ws' ≡ ws) 6) ((kept_for g (node_of x) ≢ None) ⊎ Room (head_of ws) (node_of x))
+      (Goes ws (id_says r) (id g ∷ []) ws' us (add g (node_of x)).graph))
+  adding_held id x r ws' s = by_node x (No (id_says r) (ws' ≡ ws)) s (λ few low A. record {
     no = λ h. A.shut g C.holds h.0 h.1;
     on = λ h. let o = run_adding us ws g C id x r ws' s few low (room h) in record { answer = o.0; run = o.1; limits = A.limits };
   })
     where
-      room : (kept_for g (node_of x) ≢ none) ⊎ Room (head_of ws) (node_of x) → kept_for g (node_of x) ≡ none → Room (head_of ws) (node_of x)
+      room : (kept_for g (node_of x) ≢ None) ⊎ Room (head_of ws) (node_of x) → kept_for g (node_of x) ≡ None → Room (head_of ws) (node_of x)
       room (inl n) e = absurd (n e)
       room (inr h) e = h
 
-  pub rebuild_held : (r : CountAnswer) (ws' : List ℕ) → RebuildSays ws r ws' → (y t : ℕ) (z : Graph) → Rebuild g y t z → Goes ws (count_says r) (y ∷ []) ws' us z
+  pub rebuild_held : (r : Result ℕ Refusal) (ws' : List ℕ) → RebuildSays ws r ws' → (y t : ℕ) (z : Graph) → Rebuild g y t z → Goes ws (count_says r) (y ∷ []) ws' us z
   rebuild_held r ws' s y t z R = let o = run_rebuild us ws g C r ws' s y t z R in record { answer = o.0; run = o.1; limits = (s.on C.holds.good).limits }
 
   -- ---- the classes
 
-  pub total_is : (r : CountAnswer) → TotalSays ws r → CleanLadder g (count_says r ≡ no_by 7) (count_says r ≡ yes_with (total_number_of_nodes g ∷ []))
+  pub total_is : (r : Result ℕ Refusal) → TotalSays ws r → CleanLadder g (count_says r ≡ no_by 7) (count_says r ≡ yes_with (total_number_of_nodes g ∷ []))
   total_is r s = total_held ws g C.holds r s
 
-  pub list_is : (list : Graph → List ℕ) (reads : Head → List ℕ → List ℕ) (out : List ℕ) (r : ListAnswer) (out' : List ℕ) → ListSays list reads ws out r out' → CleanLadder g (No (list_says r) (out' ≡ out) 7) (Lists (list g) out r out')
+  pub list_is : (list : Graph → List ℕ) (reads : Head → List ℕ → List ℕ) (out : List ℕ) (r : Result ℕ Refusal) (out' : List ℕ) → ListSays list reads ws out r out' → CleanLadder g (No (count_says r) (out' ≡ out) 7) (Lists (list g) out r out')
   list_is list reads out r out' s = list_held list reads ws g C.holds out r out' s
 
 -- ---- how a ladder ends
@@ -175,48 +167,48 @@ fall_read : {B G X R : Type 0} {a : Answer} {k : ℕ} → 0 < k → k < 9 → B 
 fall_read p q d s f = fall p q d (record { no = λ b. (s.no b, tt); on = s.on }) f
 
 -- the list xs in the slice
-abbrev pub Written : List ℕ → List ℕ → ListAnswer → List ℕ → Type 0
-Written xs out r out' = (list_says r ≡ yes_with (length xs ∷ [])) × (take (length xs) out' ≡ xs) × (drop (length xs) out' ≡ drop (length xs) out)
+abbrev pub Written : List ℕ → List ℕ → Result ℕ Refusal → List ℕ → Type 0
+Written xs out r out' = (count_says r ≡ yes_with (length xs ∷ [])) × (take (length xs) out' ≡ xs) × (drop (length xs) out' ≡ drop (length xs) out)
 
-fall_list : (xs out : List ℕ) (r : ListAnswer) (out' : List ℕ) → Lists xs out r out' → Refused (list_says r) (out' ≡ out) ⊎ Written xs out r out'
+fall_list : (xs out : List ℕ) (r : Result ℕ Refusal) (out' : List ℕ) → Lists xs out r out' → Refused (count_says r) (out' ≡ out) ⊎ Written xs out r out'
 fall_list xs out r out' L = fall (omega arith) (omega arith) (lt_or (length out) (length xs)) (record { no = L.long; on = L.fits }) inr
 
 -- found or room, or neither
-room_or : (g : Graph) (h : Head) (x : Term) → ((kept_for g x ≡ none) × Full h x) ⊎ ((kept_for g x ≢ none) ⊎ Room h x)
+room_or : (g : Graph) (h : Head) (x : Term) → ((kept_for g x ≡ None) × Full h x) ⊎ ((kept_for g x ≢ None) ⊎ Room h x)
 room_or g h x = go (kept_for g x) refl (full_or h x)
   where
-    go : (o : Option ℕ) → kept_for g x ≡ o → Full h x ⊎ Room h x → ((kept_for g x ≡ none) × Full h x) ⊎ ((kept_for g x ≢ none) ⊎ Room h x)
-    go (some i) e d = inr (inl (λ n. none≢some (sym n ∙ e)))
-    go none e (inl f) = inl (e, f)
-    go none e (inr f) = inr (inr f)
+    go : (o : Option ℕ) → kept_for g x ≡ o → Full h x ⊎ Room h x → ((kept_for g x ≡ None) × Full h x) ⊎ ((kept_for g x ≢ None) ⊎ Room h x)
+    go (Some i) e d = inr (inl (λ n. none≢some (sym n ∙ e)))
+    go None e (inl f) = inl (e, f)
+    go None e (inr f) = inr (inr f)
 
 module _ (us : List (ℕ × ℕ)) (ws : List ℕ) (g : Graph) (C : Run us ws g) where
-  pub find_ends : (i : ℕ) (r : FindAnswer) → FindSays ws i r → Refused (find_says r) (Unit {0}) ⊎ (find_says r ≡ yes_with (root g.roots i ∷ []))
+  pub find_ends : (i : ℕ) (r : Result Id Refusal) → FindSays ws i r → Refused (id_says r) (Unit {0}) ⊎ (id_says r ≡ yes_with (root g.roots i ∷ []))
   find_ends i r s = fall_read (omega arith) (omega arith) (or_lt i (ids g)) (find_held us ws g C i r s) inr
 
-  pub node_ends : (i : ℕ) (r : NodeAnswer) → NodeSays ws i r → Refused (node_says r) (Unit {0}) ⊎ (node_says r ≡ yes_with (words (node g.nodes i)))
+  pub node_ends : (i : ℕ) (r : Result Node Refusal) → NodeSays ws i r → Refused (node_says r) (Unit {0}) ⊎ (node_says r ≡ yes_with (words (node g.nodes i)))
   node_ends i r s = fall_read (omega arith) (omega arith) (or_lt i (ids g)) (node_held us ws g C i r s) inr
 
-  pub nodes_ends : (out : List ℕ) (r : ListAnswer) (out' : List ℕ) → NodesSays ws out r out' → Refused (list_says r) (out' ≡ out) ⊎ Written (nodes g) out r out'
+  pub nodes_ends : (out : List ℕ) (r : Result ℕ Refusal) (out' : List ℕ) → NodesSays ws out r out' → Refused (count_says r) (out' ≡ out) ⊎ Written (nodes g) out r out'
   nodes_ends out r out' s = fall_list (nodes g) out r out' (nodes_held us ws g C out r out' s)
 
-  pub lookup_ends : (x : Node) (r : LookupAnswer) → LookupSays ws x r → Refused (lookup_says r) (Unit {0}) ⊎ (lookup_says r ≡ found_as (lookup g (node_of x)))
+  pub lookup_ends : (x : Node) (r : Result (Option Id) Refusal) → LookupSays ws x r → Refused (lookup_says r) (Unit {0}) ⊎ (lookup_says r ≡ found_as (lookup g (node_of x)))
   lookup_ends x r s =
       fall_read (omega arith) (omega arith) (lt_or places x.count) (lookup_held us ws g C x r s)
       (λ s. fall_read (omega arith) (omega arith) (low_or (node_of x).kids (ids g)) s inr)
 
-  pub total_ends : (r : CountAnswer) → TotalSays ws r → Refused (count_says r) (Unit {0}) ⊎ (count_says r ≡ yes_with (total_number_of_nodes g ∷ []))
+  pub total_ends : (r : Result ℕ Refusal) → TotalSays ws r → Refused (count_says r) (Unit {0}) ⊎ (count_says r ≡ yes_with (total_number_of_nodes g ∷ []))
   total_ends r s = fall_read (omega arith) (omega arith) (clean_or g.clean) (total_is us ws g C r s) inr
 
-  pub list_ends : (list : Graph → List ℕ) (reads : Head → List ℕ → List ℕ) (out : List ℕ) (r : ListAnswer) (out' : List ℕ) → ListSays list reads ws out r out' → Refused (list_says r) (out' ≡ out) ⊎ Written (list g) out r out'
+  pub list_ends : (list : Graph → List ℕ) (reads : Head → List ℕ → List ℕ) (out : List ℕ) (r : Result ℕ Refusal) (out' : List ℕ) → ListSays list reads ws out r out' → Refused (count_says r) (out' ≡ out) ⊎ Written (list g) out r out'
   list_ends list reads out r out' s = fall (omega arith) (omega arith) (clean_or g.clean) (list_is us ws g C list reads out r out' s) (λ L. fall_list (list g) out r out' L)
 
-  pub cost_ends : (i : ℕ) (r : CostAnswer) (ws' : List ℕ) → CostSays ws i r ws' → Refused (cost_says r) (Unit {0}) ⊎ Smallest g i r
+  pub cost_ends : (i : ℕ) (r : Result ℕ Refusal) (ws' : List ℕ) → CostSays ws i r ws' → Refused (count_says r) (Unit {0}) ⊎ Smallest g i r
   cost_ends i r ws' s =
       fall_read (omega arith) (omega arith) (or_lt i (ids g)) (cost_held us ws g C i r ws' s)
       (λ s. fall_read (omega arith) (omega arith) (clean_or g.clean) s inr)
 
-  pub form_ends : (i : ℕ) (out : List ℕ) (r : FormAnswer) (ws' out' : List ℕ) → FormSays ws i out r ws' out'
+  pub form_ends : (i : ℕ) (out : List ℕ) (r : Result Form Refusal) (ws' out' : List ℕ) → FormSays ws i out r ws' out'
       → Refused (form_says r) (out' ≡ out) ⊎ (BestForm g i out r out' × ((form_says r).number ≡ 0))
   form_ends i out r ws' out' s =
       fall (omega arith) (omega arith) (or_lt i (ids g)) (form_held us ws g C i out r ws' out' s)
@@ -224,13 +216,13 @@ module _ (us : List (ℕ × ℕ)) (ws : List ℕ) (g : Graph) (C : Run us ws g) 
       (λ B. fall (omega arith) (omega arith) (lt_or (length out) (length (spell B.nodes))) (record { no = B.is.long; on = B.is.fits })
       (λ f. inr (B, ap (λ (a : Answer). a.number) f.0))))
 
-  pub adding_ends : (id : Graph → ℕ) (x : Node) (r : AddAnswer) (ws' : List ℕ) → AddingSays id ws x r ws'
-      → Refused (add_says r) (ws' ≡ ws) ⊎ Goes ws (add_says r) (id g ∷ []) ws' us (add g (node_of x)).graph
+  pub adding_ends : (id : Graph → ℕ) (x : Node) (r : Result Id Refusal) (ws' : List ℕ) → AddingSays id ws x r ws'
+      → Refused (id_says r) (ws' ≡ ws) ⊎ Goes ws (id_says r) (id g ∷ []) ws' us (add g (node_of x)).graph
   adding_ends id x r ws' s =
       fall (omega arith) (omega arith) (lt_or places x.count) (adding_held us ws g C id x r ws' s)
       (λ s. fall (omega arith) (omega arith) (low_or (node_of x).kids (ids g)) s
       (λ s. fall (omega arith) (omega arith) (room_or g (head_of ws) (node_of x)) s inr))
 
-  pub union_ends : (i j : ℕ) (r : UnionAnswer) (ws' : List ℕ) → UnionSays ws i j r ws'
-      → Refused (union_says r) (ws' ≡ ws) ⊎ Goes ws (union_says r) (flag (union g i j).answer) ws' (us ++ ((i, j) ∷ [])) (union g i j).graph
+  pub union_ends : (i j : ℕ) (r : Result Bool Refusal) (ws' : List ℕ) → UnionSays ws i j r ws'
+      → Refused (flag_says r) (ws' ≡ ws) ⊎ Goes ws (flag_says r) (flag (union g i j).answer) ws' (us ++ ((i, j) ∷ [])) (union g i j).graph
   union_ends i j r ws' s = fall (omega arith) (omega arith) (two_or i j (ids g)) (union_held us ws g C i j r ws' s) inr

@@ -3,9 +3,10 @@
 -- no answer shows. It is said of two calls on two slices of words that hold one graph under the same limits; they may be the same words. Of the reads but for `lookup` it
 -- is said of any words besides.
 -- Assumes nothing.
-use Rattle.std.specs.Prelude.{Bool, false, true, List, [], ◌++◌, ◌∷◌, ◌⊎◌, ◌≡◌, refl, ◌+◌, ◌<◌, ◌≤◌, ℕ, drop, length, take}
+use Rattle.egraph.specs.declared.Refusal.{Refusal}
+use Rattle.language.specs.declared.Id.{Id}
+use Rattle.std.specs.Prelude.{Result, Bool, false, true, List, [], ◌++◌, ◌∷◌, ◌⊎◌, ◌≡◌, refl, ◌+◌, ◌<◌, ◌≤◌, ℕ, drop, length, take, Option, None, Some}
 use Rattle.std.proofs.Common.{inl, inr, ◌∙◌, ap, subst, sym, arith, take-append-drop}
-use Rattle.std.proofs.Math.Option.{Option, none, some}
 use Rattle.std.proofs.Math.Decide.{dec_lt}
 use Rattle.lists.specs.Reads.{at}
 use Rattle.lists.specs.Tests.{lt_or}
@@ -19,7 +20,7 @@ use Rattle.steps.specs.Machine.{fresh}
 use Rattle.closure.specs.Ends.{ends}
 use Rattle.adding.specs.Says.{Full, Known, Room, kept_for}
 use Rattle.egraph.specs.Adds.{Adding, AddingSays, LookupSays, NodeLadder}
-use Rattle.egraph.specs.Answers.{Answer, Else, ListAt, Lists, SameLimits, Unless3, Unless7, add_says, count_says, find_says, flag_says, head_of, held_clean, list_says, lookup_says, no_by, node_says, setup_says, union_says, yes_with}
+use Rattle.egraph.specs.Answers.{Answer, Else, ListAt, Lists, SameLimits, Unless3, Unless7, id_says, count_says, flag_says, head_of, held_clean, lookup_says, no_by, node_says, setup_says, yes_with}
 use Rattle.egraph.specs.ClassLists.{ClassesSays, ForOpSays, ListSays, TotalSays, list_held, total_held, total_in}
 use Rattle.egraph.specs.Listing.{NodeSays, NodesSays, nodes_in}
 use Rattle.egraph.specs.Reads.{CleanSays, CountSays, EmptySays, FindSays}
@@ -27,15 +28,6 @@ use Rattle.egraph.specs.Rebuilds.{RebuildSays}
 use Rattle.egraph.specs.Setup.{Limits, SetupSays}
 use Rattle.egraph.specs.Unions.{UnionOpen, UnionSays}
 use Rattle.egraph.specs.Whole.{all_below, good_test, row_test, rows_test, unbroken_test}
-use Rattle.egraph.specs.declared.AddAnswer.{AddAnswer}
-use Rattle.egraph.specs.declared.CountAnswer.{CountAnswer}
-use Rattle.egraph.specs.declared.FindAnswer.{FindAnswer}
-use Rattle.egraph.specs.declared.FlagAnswer.{FlagAnswer}
-use Rattle.egraph.specs.declared.ListAnswer.{ListAnswer}
-use Rattle.egraph.specs.declared.LookupAnswer.{LookupAnswer}
-use Rattle.egraph.specs.declared.NodeAnswer.{NodeAnswer}
-use Rattle.egraph.specs.declared.SetupAnswer.{SetupAnswer}
-use Rattle.egraph.specs.declared.UnionAnswer.{UnionAnswer}
 use Rattle.holds.specs.Holds.{Holds}
 use Rattle.layout.specs.Cut.{need}
 use Rattle.layout.specs.declared.Head.{Head}
@@ -91,10 +83,10 @@ clean_or false = inl refl
 clean_or true = inr refl
 
 -- one list in one slice
-lists_one : (xs out : List ℕ) (r r' : ListAnswer) (o o' : List ℕ) → Lists xs out r o → Lists xs out r' o' → (list_says r ≡ list_says r') × (o ≡ o')
+lists_one : (xs out : List ℕ) (r r' : Result ℕ Refusal) (o o' : List ℕ) → Lists xs out r o → Lists xs out r' o' → (count_says r ≡ count_says r') × (o ≡ o')
 lists_one xs out r r' o o' p q = go (lt_or (length out) (length xs))
   where
-    go : (length out < length xs) ⊎ (length xs ≤ length out) → (list_says r ≡ list_says r') × (o ≡ o')
+    go : (length out < length xs) ⊎ (length xs ≤ length out) → (count_says r ≡ count_says r') × (o ≡ o')
     go (inl l) = let a = p.long l in let b = q.long l in (a.0 ∙ sym b.0, a.1 ∙ sym b.1)
     go (inr l) =
         let a = p.fits l in
@@ -106,7 +98,7 @@ lists_one xs out r r' o o' p q = go (lt_or (length out) (length xs))
 
 -- ---- setup: of any words
 
-pub setup_one : (ws : List ℕ) (n m : ℕ) (r r' : SetupAnswer) (ws1 ws1' : List ℕ) → SetupSays ws n m r ws1 → SetupSays ws n m r' ws1'
+pub setup_one : (ws : List ℕ) (n m : ℕ) (r r' : Result Unit Refusal) (ws1 ws1' : List ℕ) → SetupSays ws n m r ws1 → SetupSays ws n m r' ws1'
     → (setup_says r ≡ setup_says r') × ((ws1 ≡ ws1') ⊎ One (setup_says r) (setup_says r') ws1 ws1')
 setup_one ws n m r r' ws1 ws1' s t =
     both_ends (limits_or n m) s t (λ p q. (p.0 ∙ sym q.0, inl (p.1 ∙ sym q.1)))
@@ -126,38 +118,38 @@ module _ (ws : List ℕ) where
   good_ends : {N X N' X' R : Type 0} → Unless3 ws N X → Unless3 ws N' X' → (N → N' → R) → (X → X' → R) → R
   good_ends s t n f = both_ends (dec_or (good_test ws)) s t n f
 
-  pub find_same : (i : ℕ) (r r' : FindAnswer) → FindSays ws i r → FindSays ws i r' → find_says r ≡ find_says r'
+  pub find_same : (i : ℕ) (r r' : Result Id Refusal) → FindSays ws i r → FindSays ws i r' → id_says r ≡ id_says r'
   find_same i r r' s t =
       good_ends s t (λ p q. p ∙ sym q)
       (λ s t. both_ends (or_lt i (head_of ws).ids) s t (λ p q. p ∙ sym q) (λ p q. p.exact ∙ sym q.exact))
 
-  pub count_same : (r r' : CountAnswer) → CountSays ws r → CountSays ws r' → count_says r ≡ count_says r'
+  pub count_same : (r r' : Result ℕ Refusal) → CountSays ws r → CountSays ws r' → count_says r ≡ count_says r'
   count_same r r' s t = good_ends s t (λ p q. p ∙ sym q) (λ p q. p.exact ∙ sym q.exact)
 
-  pub empty_same : (r r' : FlagAnswer) → EmptySays ws r → EmptySays ws r' → flag_says r ≡ flag_says r'
+  pub empty_same : (r r' : Result Bool Refusal) → EmptySays ws r → EmptySays ws r' → flag_says r ≡ flag_says r'
   empty_same r r' s t = good_ends s t (λ p q. p ∙ sym q) (λ p q. p.exact ∙ sym q.exact)
 
-  pub clean_same : (r r' : FlagAnswer) → CleanSays ws r → CleanSays ws r' → flag_says r ≡ flag_says r'
+  pub clean_same : (r r' : Result Bool Refusal) → CleanSays ws r → CleanSays ws r' → flag_says r ≡ flag_says r'
   clean_same r r' s t = good_ends s t (λ p q. p ∙ sym q) (λ p q. p.exact ∙ sym q.exact)
 
-  pub node_same : (i : ℕ) (r r' : NodeAnswer) → NodeSays ws i r → NodeSays ws i r' → node_says r ≡ node_says r'
+  pub node_same : (i : ℕ) (r r' : Result Node Refusal) → NodeSays ws i r → NodeSays ws i r' → node_says r ≡ node_says r'
   node_same i r r' s t =
       good_ends s.says t.says (λ p q. p ∙ sym q)
       (λ s t. both_ends (or_lt i (head_of ws).ids) s t (λ p q. p ∙ sym q)
       (λ s t. both_ends (dec_or (row_test (head_of ws) ws i)) s.exact t.exact (λ p q. p ∙ sym q) (λ p q. p ∙ sym q)))
 
-  pub total_same : (r r' : CountAnswer) → TotalSays ws r → TotalSays ws r' → count_says r ≡ count_says r'
+  pub total_same : (r r' : Result ℕ Refusal) → TotalSays ws r → TotalSays ws r' → count_says r ≡ count_says r'
   total_same r r' s t =
       good_ends s t (λ p q. p ∙ sym q)
       (λ s t. both_ends (clean_or (head_of ws).clean) s t (λ p q. p ∙ sym q)
       (λ s t. both_ends (lt_or (head_of ws).ids (total_in (head_of ws) ws)) s.exact t.exact (λ p q. p ∙ sym q) (λ p q. p ∙ sym q)))
 
   -- a list: one answer and one slice
-  module _ (out : List ℕ) (r r' : ListAnswer) (o o' : List ℕ) where
+  module _ (out : List ℕ) (r r' : Result ℕ Refusal) (o o' : List ℕ) where
     abbrev Same : Type 0
-    Same = (list_says r ≡ list_says r') × (o ≡ o')
+    Same = (count_says r ≡ count_says r') × (o ≡ o')
 
-    refused_same : {k : ℕ} → (list_says r ≡ no_by k) × (o ≡ out) → (list_says r' ≡ no_by k) × (o' ≡ out) → Same
+    refused_same : {k : ℕ} → (count_says r ≡ no_by k) × (o ≡ out) → (count_says r' ≡ no_by k) × (o' ≡ out) → Same
     refused_same p q = (p.0 ∙ sym q.0, p.1 ∙ sym q.1)
 
     at_same : {Whole : Type 0} → Dec Whole → (xs : List ℕ) → ListAt Whole xs out r o → ListAt Whole xs out r' o' → Same
@@ -224,39 +216,39 @@ module _ (ws ws' : List ℕ) (g : Graph) (H : Holds ws g) (H' : Holds ws' g) (L 
 
   -- ---- reads, which change nothing
 
-  pub find_one : (i : ℕ) (r r' : FindAnswer) → FindSays ws i r → FindSays ws' i r' → find_says r ≡ find_says r'
+  pub find_one : (i : ℕ) (r r' : Result Id Refusal) → FindSays ws i r → FindSays ws' i r' → id_says r ≡ id_says r'
   find_one i r r' s t = open_both s t (λ s t. id_ends i s t (λ p q. p ∙ sym q) (λ p q. p.sound g H ∙ sym (q.sound g H')))
 
-  pub count_one : (r r' : CountAnswer) → CountSays ws r → CountSays ws' r' → count_says r ≡ count_says r'
+  pub count_one : (r r' : Result ℕ Refusal) → CountSays ws r → CountSays ws' r' → count_says r ≡ count_says r'
   count_one r r' s t = open_both s t (λ p q. p.sound g H ∙ sym (q.sound g H'))
 
-  pub empty_one : (r r' : FlagAnswer) → EmptySays ws r → EmptySays ws' r' → flag_says r ≡ flag_says r'
+  pub empty_one : (r r' : Result Bool Refusal) → EmptySays ws r → EmptySays ws' r' → flag_says r ≡ flag_says r'
   empty_one r r' s t = open_both s t (λ p q. p.sound g H ∙ sym (q.sound g H'))
 
-  pub clean_one : (r r' : FlagAnswer) → CleanSays ws r → CleanSays ws' r' → flag_says r ≡ flag_says r'
+  pub clean_one : (r r' : Result Bool Refusal) → CleanSays ws r → CleanSays ws' r' → flag_says r ≡ flag_says r'
   clean_one r r' s t = open_both s t (λ p q. p.sound g H ∙ sym (q.sound g H'))
 
-  pub node_one : (i : ℕ) (r r' : NodeAnswer) → NodeSays ws i r → NodeSays ws' i r' → node_says r ≡ node_says r'
+  pub node_one : (i : ℕ) (r r' : Result Node Refusal) → NodeSays ws i r → NodeSays ws' i r' → node_says r ≡ node_says r'
   node_one i r r' s t = open_both s.says t.says (λ s t. id_ends i s t (λ p q. p ∙ sym q) (λ p q. p.sound g H ∙ sym (q.sound g H')))
 
-  pub nodes_one : (out : List ℕ) (r r' : ListAnswer) (o o' : List ℕ) → NodesSays ws out r o → NodesSays ws' out r' o' → (list_says r ≡ list_says r') × (o ≡ o')
+  pub nodes_one : (out : List ℕ) (r r' : Result ℕ Refusal) (o o' : List ℕ) → NodesSays ws out r o → NodesSays ws' out r' o' → (count_says r ≡ count_says r') × (o ≡ o')
   nodes_one out r r' o o' s t = open_both s.says t.says (λ p q. lists_one (nodes g) out r r' o o' (p.sound g H) (q.sound g H'))
 
   -- ---- the classes of a clean graph
 
-  pub total_one : (r r' : CountAnswer) → TotalSays ws r → TotalSays ws' r' → count_says r ≡ count_says r'
+  pub total_one : (r r' : Result ℕ Refusal) → TotalSays ws r → TotalSays ws' r' → count_says r ≡ count_says r'
   total_one r r' s t = both_ends (clean_or g.clean) (total_held ws g H r s) (total_held ws' g H' r' t) (λ p q. p ∙ sym q) (λ p q. p ∙ sym q)
 
-  list_one : (list : Graph → List ℕ) (reads : Head → List ℕ → List ℕ) (out : List ℕ) (r r' : ListAnswer) (o o' : List ℕ) → ListSays list reads ws out r o → ListSays list reads ws' out r' o'
-      → (list_says r ≡ list_says r') × (o ≡ o')
+  list_one : (list : Graph → List ℕ) (reads : Head → List ℕ → List ℕ) (out : List ℕ) (r r' : Result ℕ Refusal) (o o' : List ℕ) → ListSays list reads ws out r o → ListSays list reads ws' out r' o'
+      → (count_says r ≡ count_says r') × (o ≡ o')
   list_one list reads out r r' o o' s t =
       both_ends (clean_or g.clean) (list_held list reads ws g H out r o s) (list_held list reads ws' g H' out r' o' t) (λ p q. (p.0 ∙ sym q.0, p.1 ∙ sym q.1))
       (λ p q. lists_one (list g) out r r' o o' p q)
 
-  pub for_op_one : (op : ℕ) (out : List ℕ) (r r' : ListAnswer) (o o' : List ℕ) → ForOpSays ws op out r o → ForOpSays ws' op out r' o' → (list_says r ≡ list_says r') × (o ≡ o')
+  pub for_op_one : (op : ℕ) (out : List ℕ) (r r' : Result ℕ Refusal) (o o' : List ℕ) → ForOpSays ws op out r o → ForOpSays ws' op out r' o' → (count_says r ≡ count_says r') × (o ≡ o')
   for_op_one op out r r' o o' s t = list_one (λ (k : Graph). classes_for_op k op) _ out r r' o o' s t
 
-  pub classes_one : (out : List ℕ) (r r' : ListAnswer) (o o' : List ℕ) → ClassesSays ws out r o → ClassesSays ws' out r' o' → (list_says r ≡ list_says r') × (o ≡ o')
+  pub classes_one : (out : List ℕ) (r r' : Result ℕ Refusal) (o o' : List ℕ) → ClassesSays ws out r o → ClassesSays ws' out r' o' → (count_says r ≡ count_says r') × (o ≡ o')
   classes_one out r r' o o' s t = list_one classes _ out r r' o o' s t
 
   -- ---- a node in hand
@@ -266,33 +258,33 @@ module _ (ws ws' : List ℕ) (g : Graph) (H : Holds ws g) (H' : Holds ws' g) (L 
       open_both s t (λ s t. both_ends (lt_or places x.count) s t (n 5)
       (λ s t. both_ends (low_or (node_of x).kids (head_of ws).ids) s (subst (λ (k : ℕ). Else (Known (node_of x) k → ⊥) (No' 4) (Known (node_of x) k) X') ids_same t) (n 4) f))
 
-  pub lookup_one : (x : Node) (r r' : LookupAnswer) → LookupSays ws x r → LookupSays ws' x r' → lookup_says r ≡ lookup_says r'
+  pub lookup_one : (x : Node) (r r' : Result (Option Id) Refusal) → LookupSays ws x r → LookupSays ws' x r' → lookup_says r ≡ lookup_says r'
   lookup_one x r r' s t =
       node_ends x {No = λ k. lookup_says r ≡ no_by k} {No' = λ k. lookup_says r' ≡ no_by k} s t (λ k p q. p ∙ sym q) (λ p q. p.sound g H ∙ sym (q.sound g H'))
 
   -- `add_uncanonical` and `add`
-  pub adding_one : (id : Graph → ℕ) (x : Node) (r r' : AddAnswer) (ws1 ws1' : List ℕ) → AddingSays id ws x r ws1 → AddingSays id ws' x r' ws1' → One (add_says r) (add_says r') ws1 ws1'
+  pub adding_one : (id : Graph → ℕ) (x : Node) (r r' : Result Id Refusal) (ws1 ws1' : List ℕ) → AddingSays id ws x r ws1 → AddingSays id ws' x r' ws1' → One (id_says r) (id_says r') ws1 ws1'
   adding_one id x r r' ws1 ws1' s t =
-      node_ends x {No = λ k. (add_says r ≡ no_by k) × (ws1 ≡ ws)} {No' = λ k. (add_says r' ≡ no_by k) × (ws1' ≡ ws')} s t (λ k p q. refused p q)
+      node_ends x {No = λ k. (id_says r ≡ no_by k) × (ws1 ≡ ws)} {No' = λ k. (id_says r' ≡ no_by k) × (ws1' ≡ ws')} s t (λ k p q. refused p q)
       (λ p q. go p q (kept_for g (node_of x)) refl)
     where
-      go : Adding id ws (node_of x) r ws1 → Adding id ws' (node_of x) r' ws1' → (o : Option ℕ) → kept_for g (node_of x) ≡ o → One (add_says r) (add_says r') ws1 ws1'
-      go p q (some i) k =
+      go : Adding id ws (node_of x) r ws1 → Adding id ws' (node_of x) r' ws1' → (o : Option ℕ) → kept_for g (node_of x) ≡ o → One (id_says r) (id_says r') ws1 ws1'
+      go p q (Some i) k =
           let a = p.found g i H k in
           let b = q.found g i H' k in
           answered {vs = id g ∷ []} {k = g} p.limits q.limits (a.0, rw a.1 H) (b.0, rw b.1 H')
-      go p q none k = room (full_or (head_of ws) (node_of x))
+      go p q None k = room (full_or (head_of ws) (node_of x))
         where
-          room : Full (head_of ws) (node_of x) ⊎ Room (head_of ws) (node_of x) → One (add_says r) (add_says r') ws1 ws1'
+          room : Full (head_of ws) (node_of x) ⊎ Room (head_of ws) (node_of x) → One (id_says r) (id_says r') ws1 ws1'
           room (inl f) = refused (p.shut g H k f) (q.shut g H' k (full_same (node_of x) f))
           room (inr f) = answered p.limits q.limits (p.grown g H k f) (q.grown g H' k (room_same (node_of x) f))
 
   -- ---- union
 
-  pub union_one : (i j : ℕ) (r r' : UnionAnswer) (ws1 ws1' : List ℕ) → UnionSays ws i j r ws1 → UnionSays ws' i j r' ws1' → One (union_says r) (union_says r') ws1 ws1'
+  pub union_one : (i j : ℕ) (r r' : Result Bool Refusal) (ws1 ws1' : List ℕ) → UnionSays ws i j r ws1 → UnionSays ws' i j r' ws1' → One (flag_says r) (flag_says r') ws1 ws1'
   union_one i j r r' ws1 ws1' s t =
       open_both s t (λ s t. both_ends (far (lt_or i (head_of ws).ids) (lt_or j (head_of ws).ids)) s
-      (subst (λ (k : ℕ). Else ((k ≤ i) ⊎ (k ≤ j)) ((union_says r' ≡ no_by 4) × (ws1' ≡ ws')) ((i < k) × (j < k)) (UnionOpen ws' i j r' ws1')) ids_same t)
+      (subst (λ (k : ℕ). Else ((k ≤ i) ⊎ (k ≤ j)) ((flag_says r' ≡ no_by 4) × (ws1' ≡ ws')) ((i < k) × (j < k)) (UnionOpen ws' i j r' ws1')) ids_same t)
       (λ p q. refused p q) (λ p q. answered p.limits q.limits (p.sound g H) (q.sound g H')))
     where
       far : {N : ℕ} → (i < N) ⊎ (N ≤ i) → (j < N) ⊎ (N ≤ j) → ((N ≤ i) ⊎ (N ≤ j)) ⊎ ((i < N) × (j < N))
@@ -302,7 +294,7 @@ module _ (ws ws' : List ℕ) (g : Graph) (H : Holds ws g) (H' : Holds ws' g) (L 
 
   -- ---- rebuild, of a graph that calls made
 
-  pub rebuild_one : (us : List (ℕ × ℕ)) → Made us g → (r r' : CountAnswer) (ws1 ws1' : List ℕ) → RebuildSays ws r ws1 → RebuildSays ws' r' ws1' → One (count_says r) (count_says r') ws1 ws1'
+  pub rebuild_one : (us : List (ℕ × ℕ)) → Made us g → (r r' : Result ℕ Refusal) (ws1 ws1' : List ℕ) → RebuildSays ws r ws1 → RebuildSays ws' r' ws1' → One (count_says r) (count_says r') ws1 ws1'
   rebuild_one us M r r' ws1 ws1' s t =
       let E = ends M in
       open_both s t (λ p q. answered p.limits q.limits (p.sound g us H M E.0 E.1 E.2 E.3) (q.sound g us H' M E.0 E.1 E.2 E.3))

@@ -4,7 +4,9 @@
 -- What the demands speak of is read off the accepted calls: the nodes that have an id, the unions asked for, whether a rebuild has ended and no node or union has come
 -- since; and `Leads cs g`, that the definitions' own steps for cs lead from the fresh graph to g.
 -- Assumes nothing.
-use Rattle.std.specs.Prelude.{Bool, false, true, List, [], ◌++◌, ◌∷◌, ◌≡◌, ◌+◌, ℕ, length}
+use Rattle.language.specs.declared.Id.{Id}
+use Rattle.extract.specs.declared.Form.{Form}
+use Rattle.std.specs.Prelude.{Err, Ok, Result, Bool, false, true, List, [], ◌++◌, ◌∷◌, ◌≡◌, ◌+◌, ℕ, length}
 use Rattle.std.proofs.Math.Decide.{ℕ_discrete}
 use Rattle.lists.specs.Tests.{when}
 use Rattle.language.specs.Struct.{node_of}
@@ -17,18 +19,9 @@ use Rattle.egraph.specs.Adds.{AddSays, UncanonicalSays}
 use Rattle.egraph.specs.Rebuilds.{RebuildSays}
 use Rattle.egraph.specs.Setup.{SetupSays}
 use Rattle.egraph.specs.Unions.{UnionSays}
-use Rattle.egraph.specs.declared.AddAnswer.{AddAnswer}
-use Rattle.egraph.specs.declared.AddAnswer.TheVariants.{AddId, AddNot}
-use Rattle.egraph.specs.declared.CountAnswer.{CountAnswer}
-use Rattle.egraph.specs.declared.CountAnswer.TheVariants.{CountIs, CountNot}
 use Rattle.egraph.specs.declared.Refusal.{Refusal}
-use Rattle.egraph.specs.declared.SetupAnswer.TheVariants.{SetupDone, SetupNot}
-use Rattle.egraph.specs.declared.UnionAnswer.{UnionAnswer}
-use Rattle.egraph.specs.declared.UnionAnswer.TheVariants.{UnionNo, UnionNot, UnionYes}
 use Rattle.extract.specs.Cost.{CostSays}
 use Rattle.extract.specs.Form.{FormSays}
-use Rattle.extract.specs.declared.CostAnswer.{CostAnswer}
-use Rattle.extract.specs.declared.FormAnswer.{FormAnswer}
 
 -- ---- the accepted calls of a run
 
@@ -39,32 +32,32 @@ pub data Call : Type 0 where
   did_rebuild : Call
 
 -- one call later: a refused call is none of them
-abbrev pub after_add : List Call → Term → AddAnswer → List Call
-after_add cs x (AddId i) = did_add x i.0 ∷ cs
-after_add cs x (AddNot q) = cs
+abbrev pub after_add : List Call → Term → Result Id Refusal → List Call
+after_add cs x (Ok i) = did_add x i.0 ∷ cs
+after_add cs x (Err q) = cs
 
-abbrev pub after_union : List Call → ℕ → ℕ → UnionAnswer → List Call
-after_union cs i j UnionYes = did_union i j ∷ cs
-after_union cs i j UnionNo = did_union i j ∷ cs
-after_union cs i j (UnionNot q) = cs
+abbrev pub after_union : List Call → ℕ → ℕ → Result Bool Refusal → List Call
+after_union cs i j (Ok true) = did_union i j ∷ cs
+after_union cs i j (Ok false) = did_union i j ∷ cs
+after_union cs i j (Err q) = cs
 
-abbrev pub after_rebuild : List Call → CountAnswer → List Call
-after_rebuild cs (CountIs k) = did_rebuild ∷ cs
-after_rebuild cs (CountNot q) = cs
+abbrev pub after_rebuild : List Call → Result ℕ Refusal → List Call
+after_rebuild cs (Ok k) = did_rebuild ∷ cs
+after_rebuild cs (Err q) = cs
 
 -- ---- the words that a run can have left
 
 pub data Reached (n m : ℕ) : List Call → List ℕ → Type 0 where
   -- an accepted setup, on any words: words that hold a graph are set up anew
-  setup_done : (ws ws' : List ℕ) → SetupSays ws n m SetupDone ws' → Reached n m [] ws'
-  setup_not : {cs : List Call} {ws : List ℕ} → Reached n m cs ws → (n' m' : ℕ) (q : Refusal) (ws' : List ℕ) → SetupSays ws n' m' (SetupNot q) ws' → Reached n m cs ws'
-  add : {cs : List Call} {ws : List ℕ} → Reached n m cs ws → (x : Node) (r : AddAnswer) (ws' : List ℕ) → AddSays ws x r ws' → Reached n m (after_add cs (node_of x) r) ws'
-  add_uncanonical : {cs : List Call} {ws : List ℕ} → Reached n m cs ws → (x : Node) (r : AddAnswer) (ws' : List ℕ) → UncanonicalSays ws x r ws'
+  setup_done : (ws ws' : List ℕ) → SetupSays ws n m (Ok tt) ws' → Reached n m [] ws'
+  setup_not : {cs : List Call} {ws : List ℕ} → Reached n m cs ws → (n' m' : ℕ) (q : Refusal) (ws' : List ℕ) → SetupSays ws n' m' (Err q) ws' → Reached n m cs ws'
+  add : {cs : List Call} {ws : List ℕ} → Reached n m cs ws → (x : Node) (r : Result Id Refusal) (ws' : List ℕ) → AddSays ws x r ws' → Reached n m (after_add cs (node_of x) r) ws'
+  add_uncanonical : {cs : List Call} {ws : List ℕ} → Reached n m cs ws → (x : Node) (r : Result Id Refusal) (ws' : List ℕ) → UncanonicalSays ws x r ws'
       → Reached n m (after_add cs (node_of x) r) ws'
-  union : {cs : List Call} {ws : List ℕ} → Reached n m cs ws → (i j : ℕ) (r : UnionAnswer) (ws' : List ℕ) → UnionSays ws i j r ws' → Reached n m (after_union cs i j r) ws'
-  rebuild : {cs : List Call} {ws : List ℕ} → Reached n m cs ws → (r : CountAnswer) (ws' : List ℕ) → RebuildSays ws r ws' → Reached n m (after_rebuild cs r) ws'
-  find_best_cost : {cs : List Call} {ws : List ℕ} → Reached n m cs ws → (i : ℕ) (r : CostAnswer) (ws' : List ℕ) → CostSays ws i r ws' → Reached n m cs ws'
-  find_best : {cs : List Call} {ws : List ℕ} → Reached n m cs ws → (i : ℕ) (out : List ℕ) (r : FormAnswer) (ws' out' : List ℕ) → FormSays ws i out r ws' out' → Reached n m cs ws'
+  union : {cs : List Call} {ws : List ℕ} → Reached n m cs ws → (i j : ℕ) (r : Result Bool Refusal) (ws' : List ℕ) → UnionSays ws i j r ws' → Reached n m (after_union cs i j r) ws'
+  rebuild : {cs : List Call} {ws : List ℕ} → Reached n m cs ws → (r : Result ℕ Refusal) (ws' : List ℕ) → RebuildSays ws r ws' → Reached n m (after_rebuild cs r) ws'
+  find_best_cost : {cs : List Call} {ws : List ℕ} → Reached n m cs ws → (i : ℕ) (r : Result ℕ Refusal) (ws' : List ℕ) → CostSays ws i r ws' → Reached n m cs ws'
+  find_best : {cs : List Call} {ws : List ℕ} → Reached n m cs ws → (i : ℕ) (out : List ℕ) (r : Result Form Refusal) (ws' out' : List ℕ) → FormSays ws i out r ws' out' → Reached n m cs ws'
 
 -- ---- what the accepted calls say
 

@@ -1,7 +1,8 @@
 -- One class tidied, over a view: its ids in the work area, sorted by their keys, each key once, are the nodes of the class in node order; and the member lists
 -- with them in the place of the old list stand for the same classes.
 -- Assumes nothing.
-use Rattle.std.specs.Prelude.{List, [], ◌++◌, ◌∷◌, map, ◌≡◌, refl, ◌+◌, ◌<◌, ◌≤◌, ℕ, length, set, take}
+use Rattle.std.specs.Prelude.{Ok, Result, List, [], ◌++◌, ◌∷◌, map, ◌≡◌, refl, ◌+◌, ◌<◌, ◌≤◌, ℕ, length, set, take}
+use Rattle.broken.specs.declared.Broken.{Broken}
 use Rattle.std.proofs.Common.{◌∙◌, ap, subst, sym, arith, drop_at, get_or-set_same, get_or-take, length-take-le, set-set, take_at}
 use Rattle.std.proofs.lemmas.List.{length-map, set-get_or}
 use Rattle.lists.specs.Sorted.{ascending_once}
@@ -26,8 +27,6 @@ use Rattle.rows.specs.Determined.{read_key}
 use Rattle.rows.specs.Rows.{size}
 use Rattle.sorting.specs.Ids.{key_of as sort_key}
 use Rattle.sorting.specs.Promise.{Sorts}
-use Rattle.sorting.specs.declared.Sorted.{Sorted}
-use Rattle.sorting.specs.declared.Sorted.TheVariants.{SortedTo}
 use Rattle.tidying.specs.Refill.{Fresh, fill}
 use Rattle.tidying.specs.Says.{ClassTidied}
 
@@ -73,17 +72,17 @@ module _ {h : Head} {u : ℕ} {v : View} {g : Graph} (H : HoldsAt h u v g) (a : 
         ∙ class_sorted g h.n h.ids v.members H.members H.ids_are a;
   }
 
-  module _ (k : ℕ) (s1 s2 : List ℕ) (r : Sorted) (ek : k ≡ length list) (copied : take k s1 ≡ list)
+  module _ (k : ℕ) (s1 s2 : List ℕ) (r : Result ℕ Broken) (ek : k ≡ length list) (copied : take k s1 ≡ list)
       (S : Sorts (v.rows ++ s1) (v.rows ++ s2) h.n h.m k r) where
     -- a word behind the rows
     behind : (s : List ℕ) (p : ℕ) → at (v.rows ++ s) (size h.n h.m + p) ≡ at s p
     behind s p = at_right v.rows s (size h.n h.m + p) p (omega (arith, H.nodes.rows.words))
 
     -- they are ids, so they are sorted
-    pub class_sorts : (d : ℕ) × (r ≡ SortedTo d)
+    pub class_sorts : (d : ℕ) × (r ≡ Ok d)
     class_sorts = S.ids (λ p l. rw (behind s1 p, ← get_or-take k s1 p 0 l, copied) ((H.members.pool.rows a ha).low p (omega arith)))
 
-    module _ (now : UpToDate H) (d : ℕ) (er : r ≡ SortedTo d) (high : d ≤ length s2) where
+    module _ (now : UpToDate H) (d : ℕ) (er : r ≡ Ok d) (high : d ≤ length s2) where
       -- the key by which an id of the class is sorted
       key_is : (x : ℕ) → Mem x list → sort_key (v.rows ++ s1) h.n h.m x ≡ key_of g x
       key_is x m =

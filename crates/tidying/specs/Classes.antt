@@ -1,7 +1,9 @@
 -- All classes tidied, one after the other: what holds on the way, and at the end, when the graph is clean.
 -- Assumes nothing.
-use Rattle.std.specs.Prelude.{true, List, [], map, ◌≡◌, refl, ◌+◌, ◌<◌, ◌≤◌, ℕ, length}
-use Rattle.std.proofs.Common.{⊎_elim, ◌∙◌, ap, subst, sym, arith}
+use Rattle.std.specs.Prelude.{Ok, Result, true, List, [], map, ◌≡◌, refl, ◌+◌, ◌<◌, ◌≤◌, ℕ, length}
+use Rattle.broken.specs.declared.Broken.{Broken}
+use Rattle.broken.specs.Words.{broken}
+use Rattle.std.proofs.Common.{⊎_elim, ◌∙◌, ap, subst, arith}
 use Rattle.cells.specs.Changes.{change_apart}
 use Rattle.lists.specs.Members.{no_member}
 use Rattle.lists.specs.Reads.{set_all}
@@ -12,11 +14,8 @@ use Rattle.steps.specs.Classes.{class_nodes}
 use Rattle.steps.specs.Graph.{Graph, key_of, root}
 use Rattle.steps.specs.Machine.{marked}
 use Rattle.cells.specs.Pool.{row}
-use Rattle.cells.specs.declared.Change.{Change}
-use Rattle.cells.specs.declared.Change.TheVariants.{ChangeBroken}
 use Rattle.holds.specs.Holds.{HoldsAt, UpToDate}
 use Rattle.holds.specs.Inside.{Inside, Near, inside_same, inside_then}
-use Rattle.holds.specs.declared.Stepped.TheVariants.{SteppedBroken, SteppedTo}
 use Rattle.layout.specs.Head.{HeadOk}
 use Rattle.layout.specs.View.{View, view}
 use Rattle.layout.specs.declared.Head.{Head}
@@ -88,7 +87,7 @@ module _ (h : Head) (ws : List ℕ) where
     sound = λ g u H now. record { holds = H; keys = now; lists = λ q l. absurd (omega arith) };
   }
 
-  module _ (i : ℕ) (r : Change) (ws1 ws2 : List ℕ) (A : TidiedTo h ws ws1 i) (C : TidiesClass h i ws1 r ws2) where
+  module _ (i : ℕ) (r : Result Unit Broken) (ws1 ws2 : List ℕ) (A : TidiedTo h ws ws1 i) (C : TidiesClass h i ws1 r ws2) where
     pub tidied_more : i < h.n → TidiedTo h ws ws2 (i + 1)
     tidied_more hi = record {
       inside = inside_then A.inside C.inside;
@@ -97,24 +96,18 @@ module _ (h : Head) (ws : List ℕ) where
           tidy_more h u (view h.n h.m ws1) (view h.n h.m ws2) g i hi T (C.sound g u T.holds T.keys).1;
     }
 
-    pub tidied_broken : r ≡ ChangeBroken → Tidies h ws SteppedBroken ws2
+    pub tidied_broken : r ≡ broken → Tidies h ws broken ws2
     tidied_broken e = record {
       inside = inside_then A.inside C.inside;
-      exact = λ k. never k;
-      range = λ k. never k;
+      exact = λ k (f : broken ≡ Ok k). zero_one cc;
+      range = λ k (f : broken ≡ Ok k). zero_one cc;
       sound = λ g u H now. let T = A.sound g u H now in absurd (change_apart r e (C.sound g u T.holds T.keys).0);
     }
-      where
-        never : {B : Type 0} (k : Head) → SteppedBroken ≡ SteppedTo k → B
-        never k f = zero_one cc
 
-  pub tidied_all : (i : ℕ) (ws' : List ℕ) → HeadOk (length ws) h → h.ids ≤ i → TidiedTo h ws ws' i → Tidies h ws (SteppedTo (cleaned h)) ws'
+  pub tidied_all : (i : ℕ) (ws' : List ℕ) → HeadOk (length ws) h → h.ids ≤ i → TidiedTo h ws ws' i → Tidies h ws (Ok (cleaned h)) ws'
   tidied_all i ws' ok end A = record {
     inside = A.inside;
-    exact = λ k e. is k e;
-    range = λ k e. subst (λ (s : Head). Near (length ws) h s) (sym (is k e)) (record { ok = omega arith; n_is = refl; m_is = refl });
+    exact = λ k (e : Ok (cleaned h) ≡ Ok k). cc;
+    range = λ k (e : Ok (cleaned h) ≡ Ok k). let is : cleaned h ≡ k = cc in subst (λ (s : Head). Near (length ws) h s) is (record { ok = omega arith; n_is = refl; m_is = refl });
     sound = λ g u H now. (refl, tidy_all h u (view h.n h.m ws') g i end (A.sound g u H now));
   }
-    where
-      is : (k : Head) → SteppedTo (cleaned h) ≡ SteppedTo k → k ≡ cleaned h
-      is k e = cc

@@ -1,17 +1,15 @@
 -- The ids that are left of a list put back from the work area: one pushed, and the first d of them in order.
 -- Assumes nothing.
-use Rattle.std.specs.Prelude.{List, [], ◌++◌, ◌≡◌, refl, ◌+◌, ◌<◌, ◌≤◌, ℕ, length, set, take}
+use Rattle.std.specs.Prelude.{Ok, Result, List, [], ◌++◌, ◌≡◌, refl, ◌+◌, ◌<◌, ◌≤◌, ℕ, length, set, take}
+use Rattle.broken.specs.declared.Broken.{Broken}
 use Rattle.std.proofs.Common.{append_assoc, append-nil, ap, subst, add-one, arith, length-set, get_or-set_same, set-set, take-suc}
 use Rattle.std.proofs.lemmas.List.{set-get_or}
 use Rattle.layout.specs.Idle.{lent_same}
 use Rattle.lists.specs.Reads.{at}
-use Rattle.cells.specs.Changes.{Pushed, change_apart}
 use Rattle.cells.specs.Free.{free_push}
 use Rattle.cells.specs.Pool.{Free, Pool, push_l, row}
-use Rattle.cells.specs.declared.Change.{Change}
-use Rattle.cells.specs.declared.Change.TheVariants.{ChangeBroken, ChangeDone}
 use Rattle.layout.specs.Cut.{members, need, sorting}
-use Rattle.layout.specs.Lent.{Lent, Loaded, lent_map, lent_twice}
+use Rattle.layout.specs.Lent.{Lent, lent_twice}
 use Rattle.layout.specs.View.{View, view}
 use Rattle.layout.proofs.Sizes.{get_length}
 
@@ -20,8 +18,8 @@ unfoldable pub fill : List (List ℕ) → ℕ → List ℕ → ℕ → List (Lis
 fill L a s i = set L a (row L a ++ take i s)
 
 -- what `put_back` promises of the member lists, where s is the work area
-pub record PutsBack (s : List ℕ) (n a i : ℕ) (r : Change) (w w' : List ℕ) : Type 0 where
-  pub law : (L : List (List ℕ)) → Pool w n n L → at s i < n → Free L (at s i) → (r ≡ ChangeDone) × Pool w' n n (push_l L a (at s i))
+pub record PutsBack (s : List ℕ) (n a i : ℕ) (r : Result Unit Broken) (w w' : List ℕ) : Type 0 where
+  pub law : (L : List (List ℕ)) → Pool w n n L → at s i < n → Free L (at s i) → (r ≡ Ok tt) × Pool w' n n (push_l L a (at s i))
 
 -- the first d words of s are cells of no list, each once
 pub record Fresh (L : List (List ℕ)) (n : ℕ) (s : List ℕ) (d : ℕ) : Type 0 where
@@ -30,8 +28,8 @@ pub record Fresh (L : List (List ℕ)) (n : ℕ) (s : List ℕ) (d : ℕ) : Type
   pub once : (i j : ℕ) → i < d → j < d → at s i ≡ at s j → i ≡ j
 
 -- what `refill` promises of the member lists
-pub record Refills (s : List ℕ) (n a d : ℕ) (r : Change) (w w' : List ℕ) : Type 0 where
-  pub law : (L : List (List ℕ)) → Pool w n n L → Fresh L n s d → (r ≡ ChangeDone) × Pool w' n n (fill L a s d)
+pub record Refills (s : List ℕ) (n a d : ℕ) (r : Result Unit Broken) (w w' : List ℕ) : Type 0 where
+  pub law : (L : List (List ℕ)) → Pool w n n L → Fresh L n s d → (r ≡ Ok tt) × Pool w' n n (fill L a s d)
 
 -- on its way: i of them are put back
 pub record Refilling (s : List ℕ) (n a d i : ℕ) (w w' : List ℕ) : Type 0 where
@@ -40,17 +38,6 @@ pub record Refilling (s : List ℕ) (n a d i : ℕ) (w w' : List ℕ) : Type 0 w
 
 abbrev pub RefilledTo : ℕ → ℕ → ℕ → ℕ → ℕ → List ℕ → List ℕ → Type 0
 RefilledTo n m a d i ws ws' = Lent members n m (Refilling (view n m ws).sorting n a d i) ws ws'
-
--- ---- one id
-
-module _ (n m : ℕ) (a i id : ℕ) (ws : List ℕ) (x : Loaded (view n m ws).sorting i id) where
-  -- a word that is no id
-  pub put_stray : n ≤ id → Lent members n m (PutsBack (view n m ws).sorting n a i ChangeBroken) ws ws
-  put_stray off = lent_same ws (record { law = λ L p l f. absurd (omega (arith, x.is)) })
-
-  pub put_done : (r : Change) (ws' : List ℕ) → Lent members n m (λ w w'. Pushed w w' n n a id r) ws ws'
-      → Lent members n m (PutsBack (view n m ws).sorting n a i r) ws ws'
-  put_done r ws' P = lent_map (λ w w' p. record { law = λ L q l f. rw (← x.is) (p.law L q (rw x.is f)) }) P
 
 -- ---- over plain lists
 
@@ -72,13 +59,13 @@ module _ (s : List ℕ) (n a d : ℕ) (ha : a < n) (fits : d ≤ length s) where
   refilling_start w = record { pool = λ L p F. rw (fill_none L a s) p; free = λ L p F j h l. rw (fill_none L a s) (F.free j l) }
 
   module _ (i : ℕ) (hi : i < d) (w w1 : List ℕ) (R : Refilling s n a d i w w1) where
-    refilling_step : (r : Change) (w2 : List ℕ) → PutsBack s n a i r w1 w2 → (L : List (List ℕ)) → Pool w n n L → Fresh L n s d
-        → (r ≡ ChangeDone) × Pool w2 n n (fill L a s (i + 1))
+    refilling_step : (r : Result Unit Broken) (w2 : List ℕ) → PutsBack s n a i r w1 w2 → (L : List (List ℕ)) → Pool w n n L → Fresh L n s d
+        → (r ≡ Ok tt) × Pool w2 n n (fill L a s (i + 1))
     refilling_step r w2 P L p F =
         let k = P.law (fill L a s i) (R.pool L p F) (F.low i hi) (R.free L p F i (omega arith) hi) in
         (k.0, rw (← fill_more L a s i (omega (arith, p.count)) (omega arith)) k.1)
 
-    refilling_more : (r : Change) (w2 : List ℕ) → PutsBack s n a i r w1 w2 → Refilling s n a d (i + 1) w w2
+    refilling_more : (r : Result Unit Broken) (w2 : List ℕ) → PutsBack s n a i r w1 w2 → Refilling s n a d (i + 1) w w2
     refilling_more r w2 P = record {
       pool = λ L p F. (refilling_step r w2 P L p F).1;
       free = λ L p F j h l.
@@ -86,12 +73,6 @@ module _ (s : List ℕ) (n a d : ℕ) (ha : a < n) (fits : d ≤ length s) where
           (free_push (fill L a s i) a (at s i) (at s j) (omega (arith, p.count, fill_length L a s i)) (R.free L p F j (omega arith) l)
           (λ e. omega (arith, F.once j i l hi e)));
     }
-
-    refilling_broken : (r : Change) (w2 : List ℕ) → r ≡ ChangeBroken → PutsBack s n a i r w1 w2 → Refills s n a d ChangeBroken w w2
-    refilling_broken r w2 e P = record { law = λ L p F. absurd (change_apart r e (refilling_step r w2 P L p F).0) }
-
-  refilling_end : (i : ℕ) (w w' : List ℕ) → i ≡ d → Refilling s n a d i w w' → Refills s n a d ChangeDone w w'
-  refilling_end i w w' e R = record { law = λ L p F. (refl, rw (← e) (R.pool L p F)) }
 
 -- ---- over the words
 
@@ -102,7 +83,7 @@ module _ (n m : ℕ) (a d : ℕ) (ws : List ℕ) (ok : need n m ≤ length ws) (
   pub refill_start : RefilledTo n m a d 0 ws ws
   refill_start = lent_same ws (refilling_start _ n a d ha in_area _)
 
-  module _ (i : ℕ) (r : Change) (ws1 ws2 : List ℕ) (R : RefilledTo n m a d i ws ws1) (hi : i < d)
+  module _ (i : ℕ) (r : Result Unit Broken) (ws1 ws2 : List ℕ) (R : RefilledTo n m a d i ws ws1) (hi : i < d)
       (P : Lent members n m (PutsBack (view n m ws1).sorting n a i r) ws1 ws2) where
     -- the work area stays as it is
     put_there : Lent members n m (PutsBack (view n m ws).sorting n a i r) ws1 ws2
@@ -110,9 +91,3 @@ module _ (n m : ℕ) (a d : ℕ) (ws : List ℕ) (ok : need n m ≤ length ws) (
 
     pub refill_more : RefilledTo n m a d (i + 1) ws ws2
     refill_more = lent_twice (λ w w1 w2 x y. refilling_more _ n a d ha in_area i hi w w1 x r w2 y) R put_there
-
-    pub refill_broken : r ≡ ChangeBroken → Lent members n m (Refills (view n m ws).sorting n a d ChangeBroken) ws ws2
-    refill_broken e = lent_twice (λ w w1 w2 x y. refilling_broken _ n a d ha in_area i hi w w1 x r w2 e y) R put_there
-
-  pub refill_end : (i : ℕ) (ws' : List ℕ) → i ≡ d → RefilledTo n m a d i ws ws' → Lent members n m (Refills (view n m ws).sorting n a d ChangeDone) ws ws'
-  refill_end i ws' e R = lent_map (λ w w'. refilling_end _ n a d ha in_area i w w' e) R

@@ -1,16 +1,13 @@
 -- What the end of a rebuild promises: one class tidied, and all of them. On words that hold a graph whose keys are up to date, the member list of a class
 -- becomes one id for each node of the class, in node order; after all classes the graph is clean.
 -- Assumes nothing.
-use Rattle.std.specs.Prelude.{true, List, map, ◌≡◌, ℕ, length, set}
+use Rattle.std.specs.Prelude.{Ok, Result, true, List, map, ◌≡◌, ℕ, length, set}
+use Rattle.broken.specs.declared.Broken.{Broken}
 use Rattle.steps.specs.Classes.{class_nodes}
 use Rattle.steps.specs.Graph.{Graph, key_of}
 use Rattle.steps.specs.Machine.{marked}
-use Rattle.cells.specs.declared.Change.{Change}
-use Rattle.cells.specs.declared.Change.TheVariants.{ChangeDone}
 use Rattle.holds.specs.Holds.{HoldsAt, UpToDate}
 use Rattle.holds.specs.Inside.{Inside, Near}
-use Rattle.holds.specs.declared.Stepped.{Stepped}
-use Rattle.holds.specs.declared.Stepped.TheVariants.{SteppedTo}
 use Rattle.layout.specs.View.{View, view}
 use Rattle.layout.specs.declared.Head.{Head}
 
@@ -23,17 +20,17 @@ pub record ClassTidied {h : Head} {u : ℕ} {v : View} {g : Graph} (H : HoldsAt 
   pub tidy : map (key_of g) left ≡ class_nodes g a
 
 -- what `tidy_class` promises
-pub record TidiesClass (h : Head) (a : ℕ) (ws : List ℕ) (r : Change) (ws' : List ℕ) : Type 0 where
+pub record TidiesClass (h : Head) (a : ℕ) (ws : List ℕ) (r : Result Unit Broken) (ws' : List ℕ) : Type 0 where
   pub inside : Inside h.n h.m ws ws'
-  pub sound : (g : Graph) (u : ℕ) (H : HoldsAt h u (view h.n h.m ws) g) → UpToDate H → (r ≡ ChangeDone) × ClassTidied H a (view h.n h.m ws')
+  pub sound : (g : Graph) (u : ℕ) (H : HoldsAt h u (view h.n h.m ws) g) → UpToDate H → (r ≡ Ok tt) × ClassTidied H a (view h.n h.m ws')
 
 abbrev pub cleaned : Head → Head
 cleaned h = record { n = h.n; m = h.m; ids = h.ids; places = h.places; depth = h.depth; classes = h.classes; clean = true }
 
 -- what `tidy` promises
-pub record Tidies (h : Head) (ws : List ℕ) (r : Stepped) (ws' : List ℕ) : Type 0 where
+pub record Tidies (h : Head) (ws : List ℕ) (r : Result Head Broken) (ws' : List ℕ) : Type 0 where
   pub inside : Inside h.n h.m ws ws'
-  pub exact : (k : Head) → r ≡ SteppedTo k → k ≡ cleaned h
-  pub range : (k : Head) → r ≡ SteppedTo k → Near (length ws) h k
+  pub exact : (k : Head) → r ≡ Ok k → k ≡ cleaned h
+  pub range : (k : Head) → r ≡ Ok k → Near (length ws) h k
   pub sound : (g : Graph) (u : ℕ) (H : HoldsAt h u (view h.n h.m ws) g) → UpToDate H
-      → (r ≡ SteppedTo (cleaned h)) × HoldsAt (cleaned h) u (view h.n h.m ws') (marked g true)
+      → (r ≡ Ok (cleaned h)) × HoldsAt (cleaned h) u (view h.n h.m ws') (marked g true)

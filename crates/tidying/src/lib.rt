@@ -18,107 +18,79 @@ ghost use Rattle.tidying.specs.Copy.{Copies};
 ghost use Rattle.tidying.specs.Refill.{PutsBack, Refills};
 ghost use Rattle.tidying.specs.Says.{TidiesClass, Tidies};
 
-use cells::Change;
-use holds::Stepped;
+use broken::Broken;
 use language::Id;
 use layout::Head;
 
 // The k ids of a list to the start of the work area, in list order: the walk goes back from the last.
-fn copy(ws: &mut [u32], h: Head, list: Id, k: usize) -> Change
+fn copy(ws: &mut [u32], h: Head, list: Id, k: usize) -> Result<(), Broken>
     requires head_ok { HeadOk (length ws.old) h }
     requires list_lt_n { (list.0 < h.n) × (k ≤ h.n) }
     ensures { Lent sorting h.n h.m (Copies (view h.n h.m ws.old).members h.n list.0 k result) ws.old ws.new }
 {
-    let n = h.n;
     let mut id = parts::on_members::last(ws, h, list);
-    let mut left = k;
-    while 0 < left {
-        if n <= id.0 as usize {
-            return Change::ChangeBroken;
+    for place in (0..k).rev() {
+        if h.n <= id.0 as usize {
+            return Err(Broken);
         }
-        left -= 1;
-        parts::on_sorting::set_work(ws, h, left, id);
+        parts::on_sorting::set_work(ws, h, place, id);
         id = parts::on_members::link(ws, h, id);
     }
-    Change::ChangeDone
+    Ok(())
 }
 
 // The id at place i of the work area to the end of a list.
-fn put_back(ws: &mut [u32], h: Head, list: Id, i: usize) -> Change
+fn put_back(ws: &mut [u32], h: Head, list: Id, i: usize) -> Result<(), Broken>
     requires head_ok { HeadOk (length ws.old) h }
     requires list_lt_n { (list.0 < h.n) × (i < h.n) }
     ensures { Lent members h.n h.m (PutsBack (view h.n h.m ws.old).sorting h.n list.0 i result) ws.old ws.new }
 {
-    let n = h.n;
     let id = parts::on_sorting::work(ws, h, i);
-    if n <= id.0 as usize {
-        return Change::ChangeBroken;
+    if h.n <= id.0 as usize {
+        return Err(Broken);
     }
     parts::on_members::push(ws, h, list, id)
 }
 
 // The first d ids of the work area to the end of a list, in order.
-fn refill(ws: &mut [u32], h: Head, list: Id, d: usize) -> Change
+fn refill(ws: &mut [u32], h: Head, list: Id, d: usize) -> Result<(), Broken>
     requires head_ok { HeadOk (length ws.old) h }
     requires list_lt_n { (list.0 < h.n) × (d ≤ h.n) }
     ensures { Lent members h.n h.m (Refills (view h.n h.m ws.old).sorting h.n list.0 d result) ws.old ws.new }
 {
-    let mut i: usize = 0;
-    while i < d {
-        let Change::ChangeDone = put_back(ws, h, list, i) else {
-            return Change::ChangeBroken;
-        };
-        i += 1;
+    for i in 0..d {
+        put_back(ws, h, list, i)?;
     }
-    Change::ChangeDone
+    Ok(())
 }
 
 // The list of one class sorted by the keys of its ids, and of ids with one key all but one dropped. A list of no class is empty, and stays so.
-fn tidy_class(ws: &mut [u32], h: Head, list: Id) -> Change
+fn tidy_class(ws: &mut [u32], h: Head, list: Id) -> Result<(), Broken>
     requires head_ok { HeadOk (length ws.old) h }
     requires list_lt_n { list.0 < h.n }
     ensures { TidiesClass h list.0 ws.old result ws.new }
 {
-    let n = h.n;
     let k = parts::on_members::len(ws, h, list);
     if k < 2 {
-        return Change::ChangeDone;
+        return Ok(());
     }
-    if n < k {
-        return Change::ChangeBroken;
+    if h.n < k {
+        return Err(Broken);
     }
-    let Change::ChangeDone = copy(ws, h, list, k) else {
-        return Change::ChangeBroken;
-    };
-    let sorting::Sorted::SortedTo(d) = parts::on_sorting::sort(ws, h, k) else {
-        return Change::ChangeBroken;
-    };
+    copy(ws, h, list, k)?;
+    let d = parts::on_sorting::sort(ws, h, k)?;
     parts::on_members::empty(ws, h, list);
     refill(ws, h, list, d)
 }
 
 // Every class tidied: the graph is clean.
-pub fn tidy(ws: &mut [u32], h: Head) -> Stepped
+pub fn tidy(ws: &mut [u32], h: Head) -> Result<Head, Broken>
     requires { HeadOk (length ws.old) h }
     ensures { Tidies h ws.old result ws.new }
 {
     // every root is an id
-    let lists = h.ids;
-    let mut i: usize = 0;
-    while i < lists {
-        let Change::ChangeDone = tidy_class(ws, h, Id(i as u32)) else {
-            return Stepped::SteppedBroken;
-        };
-        i += 1;
+    for i in 0..h.ids {
+        tidy_class(ws, h, Id(i as u32))?;
     }
-    let k = Head {
-        n: h.n,
-        m: h.m,
-        ids: h.ids,
-        places: h.places,
-        depth: h.depth,
-        classes: h.classes,
-        clean: true,
-    };
-    Stepped::SteppedTo(k)
+    Ok(Head { clean: true, ..h })
 }

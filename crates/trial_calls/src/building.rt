@@ -27,30 +27,26 @@ pub fn some_node(seed: u64) -> Node {
 
 fn add_nodes(ws: &mut [u32], seed: u64, count: usize) {
     let mut x = seed;
-    let mut i: usize = 0;
-    while i < count {
+    for _ in 0..count {
         x = next(x);
-        egraph::add(ws, some_node(x));
-        i += 1;
+        let _ = egraph::add(ws, some_node(x));
     }
 }
 
 fn union_ids(ws: &mut [u32], seed: u64, count: usize) {
     let mut x = seed;
-    let mut i: usize = 0;
-    while i < count {
+    for _ in 0..count {
         x = next(x);
-        egraph::union(ws, child(x, 6), child(x, 7));
-        i += 1;
+        let _ = egraph::union(ws, child(x, 6), child(x, 7));
     }
 }
 
 fn graph(ws: &mut [u32], seed: u64) {
-    egraph::setup(ws, IDS, PLACES);
+    let _ = egraph::setup(ws, IDS, PLACES);
     add_nodes(ws, seed, 10 + draw(seed, 8, 30));
     union_ids(ws, seed, draw(seed, 9, 5));
     if draw(seed, 10, 4) > 0 {
-        egraph::rebuild(ws);
+        let _ = egraph::rebuild(ws);
     }
 }
 
@@ -58,7 +54,5 @@ fn graph(ws: &mut [u32], seed: u64) {
 pub fn good(ws: &mut [u32], seed: u64)
     requires { length ws.old ≡ 640 }
 {
-    let a = FROM;
-    let e = TO;
-    graph(&mut ws[a..e], seed);
+    graph(&mut ws[FROM..TO], seed);
 }

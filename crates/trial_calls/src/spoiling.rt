@@ -18,11 +18,7 @@ pub const KIND_SHORT: u64 = 2;
 
 // Whether the words stay those of a good graph.
 pub fn keeps(kind: u64) -> bool {
-    match kind {
-        0 => true,
-        2 => true,
-        _ => false,
-    }
+    kind == 0 || kind == KIND_SHORT
 }
 
 // Mostly a small word, sometimes any.
@@ -40,11 +36,9 @@ fn one_word(ws: &mut [u32; SIZE], seed: u64) {
 
 fn some_words(ws: &mut [u32; SIZE], seed: u64, count: usize) {
     let mut x = seed;
-    let mut i: usize = 0;
-    while i < count {
+    for _ in 0..count {
         x = next(x);
         one_word(ws, x);
-        i += 1;
     }
 }
 
@@ -65,15 +59,14 @@ fn some_head(ws: &mut [u32; SIZE], seed: u64) {
 
 fn all_words(ws: &mut [u32; SIZE], seed: u64) {
     let mut x = seed;
-    let mut i = FROM + 32;
-    while i < FROM + NEED {
+    for word in &mut ws[FROM + 32..FROM + NEED] {
         x = next(x);
-        ws[i] = draw_word(x, 29, 16);
-        i += 1;
+        *word = draw_word(x, 29, 16);
     }
 }
 
 pub fn spoil(ws: &mut [u32; SIZE], kind: u64, seed: u64) {
+    // A drawn number, not an enum: the enum would have to be made of the number by a match like this one.
     match kind {
         1 => some_words(ws, seed, 1 + draw(seed, 30, 8)),
         3 => head_word(ws, seed),

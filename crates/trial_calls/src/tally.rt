@@ -28,74 +28,37 @@ pub struct Change {
     pub outside: u64,
 }
 
-// How many of the words from `lo` to `hi` differ.
-fn changed(old: &[u32; SIZE], new: &[u32; SIZE], lo: usize, hi: usize) -> u64
-    requires { hi ≤ 640 }
-{
-    let mut n: u64 = 0;
-    let mut i = lo;
-    while i < hi {
-        if old[i] != new[i] {
-            n = std::num::wrapping_add_u64(n, 1);
-        }
-        i += 1;
-    }
-    n
+// How many of two slices' words differ.
+fn changed(old: &[u32], new: &[u32]) -> u64 {
+    old.iter().zip(new).filter(|(a, b)| a != b).count() as u64
 }
 
 // The words that the call was lent, as far as its limits need them, end at `reach`.
 pub fn compare(old: &[u32; SIZE], new: &[u32; SIZE], reach: usize) -> Change
-    requires { reach ≤ 640 }
+    requires { (64 ≤ reach) × (reach ≤ 640) }
 {
-    let before = changed(old, new, 0, FROM);
-    let behind = changed(old, new, reach, SIZE);
+    let before = changed(&old[..FROM], &new[..FROM]);
+    let behind = changed(&old[reach..], &new[reach..]);
     Change {
-        inside: changed(old, new, FROM, reach),
-        outside: std::num::wrapping_add_u64(before, behind),
+        inside: changed(&old[FROM..reach], &new[FROM..reach]),
+        outside: before.wrapping_add(behind),
     }
 }
 
 fn more(t: &mut [u64; TALLY], at: usize, n: u64)
     requires { at < 14 }
 {
-    t[at] = std::num::wrapping_add_u64(t[at], n);
+    t[at] = t[at].wrapping_add(n);
 }
 
 // Whether a call that answered a number may change words of the graph.
 fn may_change(which: u64, number: usize) -> bool {
-    if calls::keeps_words(which) {
-        return false;
-    }
-    if number == 0 {
-        return true;
-    }
-    number == 9
+    !calls::keeps_words(which) && (number == 0 || number == 9)
 }
 
-// 1 for a call that changed a word which it must keep, else 0.
-fn lapse(which: u64, number: usize, graph: u64, list: u64) -> u64 {
-    if graph > 0 {
-        if !may_change(which, number) {
-            return 1;
-        }
-    }
-    if list > 0 {
-        if number != 0 {
-            return 1;
-        }
-    }
-    0
-}
-
-// 1 for a 9 on a good graph, else 0.
-fn nine(number: usize, kind: u64) -> u64 {
-    if number != 9 {
-        return 0;
-    }
-    if spoiling::keeps(kind) {
-        return 1;
-    }
-    0
+// Whether a call changed a word which it must keep.
+fn lapsed(which: u64, number: usize, graph: u64, list: u64) -> bool {
+    (graph > 0 && !may_change(which, number)) || (list > 0 && number != 0)
 }
 
 // One call more, with the number that it answered.
@@ -103,7 +66,7 @@ pub fn answered(t: &mut [u64; TALLY], number: usize, kind: u64)
     requires { number < 10 }
 {
     more(t, number, 1);
-    more(t, NINES, nine(number, kind));
+    more(t, NINES, u64::from(number == 9 && spoiling::keeps(kind)));
 }
 
 // What it changed of the array with the graph, and of that with the list.
@@ -111,5 +74,6 @@ pub fn changes(t: &mut [u64; TALLY], which: u64, number: usize, graph: Change, l
     more(t, OUTSIDE, graph.outside);
     more(t, OUTSIDE, list.outside);
     more(t, CALLS, 1);
-    more(t, LAPSES, lapse(which, number, graph.inside, list.inside));
+    let lapse = lapsed(which, number, graph.inside, list.inside);
+    more(t, LAPSES, u64::from(lapse));
 }

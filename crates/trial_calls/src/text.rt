@@ -18,12 +18,10 @@ fn answer(rt: &impl Print, k: usize, n: u64) -> io::Result<()> {
 
 // How many calls answered each number; those that none answered are left out.
 fn answers(rt: &impl Print, t: &[u64; TALLY]) -> io::Result<()> {
-    let mut k: usize = 0;
-    while k < 10 {
-        if t[k] > 0 {
-            answer(rt, k, t[k])?;
+    for (k, n) in t[..tally::CALLS].iter().enumerate() {
+        if *n > 0 {
+            answer(rt, k, *n)?;
         }
-        k += 1;
     }
     Ok(())
 }

@@ -17,10 +17,7 @@ struct Plan {
 fn need_by(n: u32, m: u32) -> usize
     ensures { result ≤ 3000000 }
 {
-    if 65536 < n {
-        return 0;
-    }
-    if 262144 < m {
+    if 65536 < n || 262144 < m {
         return 0;
     }
     32 + 28 * n as usize + 4 * m as usize
@@ -50,22 +47,13 @@ fn end_of(kind: u64, seed: u64) -> usize
     }
 }
 
-fn least(a: usize, b: usize) -> usize
-    ensures { (result ≤ a) × (result ≤ b) }
-{
-    if a < b {
-        return a;
-    }
-    b
-}
-
 fn plan_of(ws: &[u32; SIZE], which: u64, kind: u64, seed: u64) -> Plan
-    ensures { (64 ≤ result.end) × (result.end ≤ 576) × (result.reach ≤ 576) × (64 ≤ result.list) × (result.list ≤ 576) }
+    ensures { (64 ≤ result.end) × (result.end ≤ 576) × (64 ≤ result.reach) × (result.reach ≤ 576) × (64 ≤ result.list) × (result.list ≤ 576) }
 {
     let end = end_of(kind, seed);
     Plan {
-        end: end,
-        reach: least(end, FROM + need_of(ws, which, seed)),
+        end,
+        reach: end.min(FROM + need_of(ws, which, seed)),
         list: FROM + draw(seed, 52, 80),
     }
 }
@@ -76,8 +64,7 @@ fn lend(ws: &mut [u32], out: &mut [u32], end: usize, list: usize, which: u64, se
     requires le_end { (64 ≤ end) × (end ≤ 576) × (64 ≤ list) × (list ≤ 576) }
     ensures { result < 10 }
 {
-    let a = FROM;
-    calls::call(&mut ws[a..end], &mut out[a..list], which, seed)
+    calls::call(&mut ws[FROM..end], &mut out[FROM..list], which, seed)
 }
 
 fn counted(ws: &mut [u32; SIZE], which: u64, kind: u64, seed: u64, t: &mut [u64; TALLY]) {
@@ -102,9 +89,7 @@ fn trial(which: u64, turn: u64, t: &mut [u64; TALLY]) {
 }
 
 pub fn trials(which: u64, turns: u64, t: &mut [u64; TALLY]) {
-    let mut i: u64 = 0;
-    while i < turns {
-        trial(which, i, t);
-        i += 1;
+    for turn in 0..turns {
+        trial(which, turn, t);
     }
 }

@@ -22,73 +22,49 @@ mod words;
 
 use std::io;
 use trials::{Part, trials};
+use try_cells::Cells;
+use try_layout::Layout;
+use try_pending::Pending;
+use try_rows::Rows;
+use try_sorting::Sorting;
+use try_table::Table;
+use try_unionfind::Unionfind;
 use words::SIZE;
 
-fn report(rt: &impl Print, part: Part, name: &[u8], turns: u64) -> io::Result<()> {
-    text::report(rt, name, trials(part, turns))?;
-    text::line_end(rt)
-}
-
-fn report_refused(rt: &impl Print, part: Part, name: &[u8], turns: u64) -> io::Result<()> {
-    let t = trials(part, turns);
-    text::report(rt, name, t)?;
-    text::report_still(rt, t, b" refused calls changed a word\n")
-}
-
-fn report_idle(rt: &impl Print, part: Part, name: &[u8], turns: u64) -> io::Result<()> {
-    let t = trials(part, turns);
-    text::report(rt, name, t)?;
-    text::report_still(rt, t, b" idle calls changed a word\n")
-}
-
-fn on_broken_words(rt: &impl Print) -> io::Result<()> {
-    report(rt, Part::PartUnionfind, b"unionfind", 200)?;
-    report_refused(rt, Part::PartCells, b"cells", 200)?;
-    report_refused(rt, Part::PartRows, b"rows", 150)?;
-    report_idle(rt, Part::PartPending, b"pending", 200)
-}
-
-fn on_more_broken_words(rt: &impl Print) -> io::Result<()> {
-    report_refused(rt, Part::PartTable, b"table", 150)?;
-    report_refused(rt, Part::PartSorting, b"sorting", 100)?;
-    report_idle(rt, Part::PartLayout, b"layout", 200)
-}
-
-fn answers(rt: &impl Print, part: Part, ws: &mut [u32; SIZE]) -> io::Result<()> {
-    match part {
-        Part::PartUnionfind => try_unionfind::answers(rt, ws),
-        Part::PartCells => try_cells::answers(rt, ws),
-        Part::PartRows => try_rows::answers(rt, ws),
-        Part::PartPending => try_pending::answers(rt, ws),
-        Part::PartTable => try_table::answers(rt, ws),
-        Part::PartSorting => try_sorting::answers(rt, ws),
-        Part::PartLayout => try_layout::answers(rt, ws),
+// What came of a part's calls on broken words.
+fn report(rt: &impl Print, part: &impl Part) -> io::Result<()> {
+    let plan = part.plan();
+    let t = trials(part);
+    print!(rt;
+        "{} {} calls, {} words outside changed",
+        plan.name, t.calls, t.outside
+    )?;
+    if let Some(which) = plan.still {
+        print!(rt; ", {} {which} calls changed a word", t.lapses)?;
     }
+    println!(rt;)
 }
 
-fn show(rt: &impl Print, part: Part, name: &[u8]) -> io::Result<()> {
-    let mut ws = [7u32; SIZE];
-    text::answers(rt, name)?;
-    answers(rt, part, &mut ws)?;
-    text::line_end(rt)
-}
-
-fn on_good_words(rt: &impl Print) -> io::Result<()> {
-    show(rt, Part::PartUnionfind, b"unionfind")?;
-    show(rt, Part::PartCells, b"cells")?;
-    show(rt, Part::PartRows, b"rows")?;
-    show(rt, Part::PartPending, b"pending")
-}
-
-fn on_more_good_words(rt: &impl Print) -> io::Result<()> {
-    show(rt, Part::PartTable, b"table")?;
-    show(rt, Part::PartSorting, b"sorting")?;
-    show(rt, Part::PartLayout, b"layout")
+// What a part's calls on good words answer.
+fn show(rt: &impl Print, part: &impl Part) -> io::Result<()> {
+    print!(rt; "{} answers", part.plan().name)?;
+    part.answers(rt, &mut [7; SIZE])?;
+    println!(rt;)
 }
 
 fn main(rt: HostRuntime) -> io::Result<()> {
-    on_broken_words(&rt)?;
-    on_more_broken_words(&rt)?;
-    on_good_words(&rt)?;
-    on_more_good_words(&rt)
+    report(&rt, &Unionfind)?;
+    report(&rt, &Cells)?;
+    report(&rt, &Rows)?;
+    report(&rt, &Pending)?;
+    report(&rt, &Table)?;
+    report(&rt, &Sorting)?;
+    report(&rt, &Layout)?;
+    show(&rt, &Unionfind)?;
+    show(&rt, &Cells)?;
+    show(&rt, &Rows)?;
+    show(&rt, &Pending)?;
+    show(&rt, &Table)?;
+    show(&rt, &Sorting)?;
+    show(&rt, &Layout)
 }

@@ -1,136 +1,55 @@
 // The trials of a part: on each turn's words, one call of each kind, and a count of what they changed.
-ghost use Rattle.std.specs.Prelude.{◌≡◌, ◌<◌, ◌≤◌, length};
+ghost use Rattle.std.specs.Prelude.{◌<◌, ◌≤◌};
 
 use super::tally::Tally;
-use super::words::{FROM, SIZE, TO};
-use super::{
-    try_cells, try_layout, try_pending, try_rows, try_sorting, try_table, try_unionfind, words,
-};
+use super::words;
+use super::words::{FROM, SIZE, TO, Words};
+use std::io;
 
+// How a part is tried: in so many turns, with so many kinds of calls. What is lent to be changed are the words from `lo` to `hi`. Words are spoilt with
+// numbers below `bound`. Where some calls must change no word, `still` says which.
 #[derive(Clone, Copy)]
-pub enum Part {
-    PartUnionfind,
-    PartCells,
-    PartRows,
-    PartPending,
-    PartTable,
-    PartSorting,
-    PartLayout,
+pub struct Plan {
+    pub name: &'static str,
+    pub still: Option<&'static str>,
+    pub turns: u64,
+    pub calls: u64,
+    pub lo: usize,
+    pub hi: usize,
+    pub bound: u64,
+    ghost inside: { (lo ≤ hi) × (hi ≤ 80) },
+    ghost small: { (1 ≤ bound) × (bound ≤ 100) },
 }
 
-// What is lent to be changed are the words from `lo` to `hi`. Words are spoilt with numbers below `bound`.
-#[derive(Clone, Copy)]
-struct Plan {
-    lo: usize,
-    hi: usize,
-    calls: u64,
-    bound: u64,
+// A part, with the calls that try it.
+pub trait Part {
+    fn plan(&self) -> Plan;
+
+    // Good words.
+    fn good(&self, ws: &mut Words);
+
+    // The call of a kind, with numbers drawn from the seed. Answers whether it must have changed no word.
+    fn call(&self, ws: &mut Words, which: u64, seed: u64) -> bool;
+
+    // Writes what calls on good words answer.
+    fn answers(&self, rt: &impl Print, ws: &mut Words) -> io::Result<()>;
 }
 
-fn whole(calls: u64, bound: u64) -> Plan
-    requires { (1 ≤ bound) × (bound ≤ 100) }
-    ensures { (result.lo ≤ 80) × (result.hi ≤ 80) × (1 ≤ result.bound) × (result.bound ≤ 100) }
-{
-    Plan {
-        lo: FROM,
-        hi: TO,
-        calls,
-        bound,
-    }
-}
-
-fn plan_of(part: Part) -> Plan
-    ensures { (result.lo ≤ 80) × (result.hi ≤ 80) × (1 ≤ result.bound) × (result.bound ≤ 100) }
-{
-    match part {
-        Part::PartUnionfind => whole(4, 70),
-        Part::PartCells => whole(6, 42),
-        Part::PartRows => whole(4, 10),
-        Part::PartPending => whole(3, 40),
-        Part::PartTable => Plan {
-            lo: FROM,
-            hi: try_table::END,
-            calls: 3,
-            bound: 6,
-        },
-        Part::PartSorting => Plan {
-            lo: try_sorting::WORK,
-            hi: TO,
-            calls: 2,
-            bound: 8,
-        },
-        Part::PartLayout => whole(1, 3),
-    }
-}
-
-fn good(part: Part, ws: &mut [u32])
-    requires { length ws.old ≡ 80 }
-{
-    match part {
-        Part::PartUnionfind => try_unionfind::good(ws),
-        Part::PartCells => try_cells::good(ws),
-        Part::PartRows => try_rows::good(ws),
-        Part::PartPending => try_pending::good(ws),
-        Part::PartTable => try_table::good(ws),
-        Part::PartSorting => try_sorting::good(ws),
-        Part::PartLayout => try_layout::good(ws),
-    }
-}
-
-// Whether the call must have changed no word.
-fn call(part: Part, ws: &mut [u32], which: u64, seed: u64) -> bool
-    requires { length ws.old ≡ 80 }
-{
-    match part {
-        Part::PartUnionfind => try_unionfind::call(ws, which, seed),
-        Part::PartCells => try_cells::call(ws, which, seed),
-        Part::PartRows => try_rows::call(ws, which, seed),
-        Part::PartPending => try_pending::call(ws, which, seed),
-        Part::PartTable => try_table::call(ws, which, seed),
-        Part::PartSorting => try_sorting::call(ws, which, seed),
-        Part::PartLayout => try_layout::call(ws),
-    }
-}
-
-fn start(part: Part, ws: &mut [u32; SIZE], turn: u64) {
+fn trial(part: &impl Part, turn: u64, mut tally: Tally) -> Tally {
+    let plan = part.plan();
+    let mut ws = [7; SIZE];
     if words::wants_good(turn) {
-        good(part, ws);
+        part.good(&mut ws);
     }
-    let p = plan_of(part);
-    words::spoil(ws, turn, p.bound);
-}
-
-fn counted(part: Part, ws: &mut [u32; SIZE], which: u64, turn: u64, t: Tally) -> Tally {
-    let old = *ws;
-    let still = call(part, ws, which, turn);
-    let p = plan_of(part);
-    t.after(&old, ws, p.lo, p.hi, still)
-}
-
-fn all_calls(part: Part, ws: &mut [u32; SIZE], turn: u64, tally: Tally) -> Tally {
-    let p = plan_of(part);
-    let calls = p.calls;
-    let mut t = tally;
-    let mut which: u64 = 0;
-    while which < calls {
-        t = counted(part, ws, which, turn, t);
-        which += 1;
+    words::spoil(&mut ws, turn, plan.bound);
+    for which in 0..plan.calls {
+        let old = ws;
+        let still = part.call(&mut ws, which, turn);
+        tally = tally.after(&old, &ws, plan, still);
     }
-    t
+    tally
 }
 
-fn trial(part: Part, turn: u64, t: Tally) -> Tally {
-    let mut ws = [7u32; SIZE];
-    start(part, &mut ws, turn);
-    all_calls(part, &mut ws, turn, t)
-}
-
-pub fn trials(part: Part, turns: u64) -> Tally {
-    let mut t = Tally::none();
-    let mut i: u64 = 0;
-    while i < turns {
-        t = trial(part, i, t);
-        i += 1;
-    }
-    t
+pub fn trials(part: &impl Part) -> Tally {
+    (0..part.plan().turns).fold(Tally::default(), |t, turn| trial(part, turn, t))
 }

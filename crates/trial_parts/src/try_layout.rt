@@ -1,70 +1,53 @@
 // The head of a graph: 64 words are enough for one id and one place.
-ghost use Rattle.std.specs.Prelude.{◌≡◌, length};
-
-use super::words::{FROM, SIZE, TO};
-use super::{text, words};
+use super::trials::{Part, Plan};
+use super::words::{FROM, TO, Words};
+use layout::Head;
 use std::io;
 
-pub fn good(ws: &mut [u32])
-    requires { length ws.old ≡ 80 }
-{
-    let a = FROM;
-    let e = TO;
-    layout::fresh_head(&mut ws[a..e], 1, 1);
-}
+pub struct Layout;
 
-// Reads the head, and if it is good writes it back, which changes nothing.
-pub fn call(ws: &mut [u32]) -> bool
-    requires { length ws.old ≡ 80 }
-{
-    let a = FROM;
-    let e = TO;
-    let r = layout::read_head(&ws[a..e]);
-    let layout::HeadRead::HeadGood(h) = r else {
-        return true;
+fn show(rt: &impl Print, ws: &Words) -> io::Result<()> {
+    let Some(h) = layout::read_head(&ws[FROM..TO]) else {
+        return print!(rt; " broken");
     };
-    layout::write_head(&mut ws[a..e], h);
-    true
+    let clean = u8::from(h.clean);
+    print!(rt;
+        " {} {} {} {} {} {} {clean}",
+        h.n, h.m, h.ids, h.places, h.depth, h.classes
+    )
 }
 
-fn flag(clean: bool) -> u64 {
-    if clean { 1 } else { 0 }
-}
-
-fn show_counts(rt: &impl Print, h: layout::Head) -> io::Result<()> {
-    text::number(rt, h.ids as u64)?;
-    text::number(rt, h.places as u64)?;
-    text::number(rt, h.depth as u64)?;
-    text::number(rt, h.classes as u64)
-}
-
-fn show_head(rt: &impl Print, h: layout::Head) -> io::Result<()> {
-    text::number(rt, h.n as u64)?;
-    text::number(rt, h.m as u64)?;
-    show_counts(rt, h)?;
-    text::number(rt, flag(h.clean))
-}
-
-fn show(rt: &impl Print, ws: &[u32]) -> io::Result<()>
-    requires { length ws.now ≡ 80 }
-{
-    let a = FROM;
-    let e = TO;
-    match layout::read_head(&ws[a..e]) {
-        layout::HeadRead::HeadGood(h) => show_head(rt, h),
-        layout::HeadRead::HeadBad => text::broken(rt),
+impl Part for Layout {
+    fn plan(&self) -> Plan {
+        Plan {
+            name: "layout",
+            still: Some("idle"),
+            turns: 200,
+            calls: 1,
+            lo: FROM,
+            hi: TO,
+            bound: 3,
+        }
     }
-}
 
-// A head with each number at its most.
-fn full(ws: &mut [u32])
-    requires { length ws.old ≡ 80 }
-{
-    let a = FROM;
-    let e = TO;
-    layout::write_head(
-        &mut ws[a..e],
-        layout::Head {
+    // A fresh head.
+    fn good(&self, ws: &mut Words) {
+        layout::fresh_head(&mut ws[FROM..TO], 1, 1);
+    }
+
+    // Reads the head, and if it is good writes it back, which changes nothing.
+    fn call(&self, ws: &mut Words, _which: u64, _seed: u64) -> bool {
+        if let Some(h) = layout::read_head(&ws[FROM..TO]) {
+            layout::write_head(&mut ws[FROM..TO], h);
+        }
+        true
+    }
+
+    // A fresh head, one with each number at its most, and one whose flag is 2.
+    fn answers(&self, rt: &impl Print, ws: &mut Words) -> io::Result<()> {
+        self.good(ws);
+        show(rt, ws)?;
+        let full = Head {
             n: 1,
             m: 1,
             ids: 1,
@@ -72,16 +55,10 @@ fn full(ws: &mut [u32])
             depth: 2,
             classes: 1,
             clean: true,
-        },
-    );
-}
-
-// A fresh head, a full one, and one whose flag is 2.
-pub fn answers(rt: &impl Print, ws: &mut [u32; SIZE]) -> io::Result<()> {
-    good(ws);
-    show(rt, ws)?;
-    full(ws);
-    show(rt, ws)?;
-    ws[FROM + 6] = 2;
-    show(rt, ws)
+        };
+        layout::write_head(&mut ws[FROM..TO], full);
+        show(rt, ws)?;
+        ws[FROM + 6] = 2;
+        show(rt, ws)
+    }
 }

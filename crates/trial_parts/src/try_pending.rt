@@ -1,99 +1,98 @@
 // The stack of what waits: 32 entries.
-ghost use Rattle.std.specs.Prelude.{◌≡◌, ◌<◌, ◌≤◌, length};
+ghost use Rattle.std.specs.Prelude.{◌<◌, ◌≤◌};
 
-use super::words::{FROM, SIZE, TO};
-use super::{text, words};
+use super::trials::{Part, Plan};
+use super::words;
+use super::words::{FROM, TO, Words};
+use pending::OnTop;
 use std::io;
 
 const ENTRIES: usize = 32;
 
-// Every entry a stretch of two places.
-pub fn good(ws: &mut [u32])
-    requires { length ws.old ≡ 80 }
+pub struct Pending;
+
+fn push_one(ws: &mut Words, depth: usize, id: usize)
+    requires { (depth < 32) × (id < 30000) }
 {
-    let a = FROM;
-    let e = TO;
-    let mut depth = 0;
-    while depth < ENTRIES {
-        pending::push_stretch(&mut ws[a..e], depth, depth, 2);
-        depth += 1;
+    pending::push_one(&mut ws[FROM..TO], depth, id);
+}
+
+// The depth afterwards.
+fn push_stretch(ws: &mut Words, depth: usize, last: usize, count: usize) -> usize
+    requires { (depth < 32) × (last < 30000) × (count < 30000) }
+{
+    pending::push_stretch(&mut ws[FROM..TO], depth, last, count)
+}
+
+fn top(ws: &Words, depth: usize) -> OnTop<usize>
+    requires { (1 ≤ depth) × (depth ≤ 32) }
+{
+    pending::top(&ws[FROM..TO], depth)
+}
+
+fn show(rt: &impl Print, ws: &Words, depth: usize) -> io::Result<()>
+    requires { (1 ≤ depth) × (depth ≤ 32) }
+{
+    match top(ws, depth) {
+        OnTop::TopOne(id) => print!(rt; " {id}"),
+        OnTop::TopMany(last, count) => print!(rt; " {last} {count}"),
     }
 }
 
-fn top(ws: &[u32], seed: u64) -> bool
-    requires { length ws.now ≡ 80 }
-{
-    let depth = 1 + words::draw(seed, 1, ENTRIES);
-    let a = FROM;
-    let e = TO;
-    pending::top(&ws[a..e], depth);
-    false
-}
-
-fn one(ws: &mut [u32], depth: usize, id: usize)
-    requires { (length ws.old ≡ 80) × (depth < 32) × (id < 30000) }
-{
-    let a = FROM;
-    let e = TO;
-    pending::push_one(&mut ws[a..e], depth, id);
-}
-
-fn stretch(ws: &mut [u32], depth: usize, last: usize, count: usize) -> usize
-    requires { (length ws.old ≡ 80) × (depth < 32) × (last < 30000) × (count < 30000) }
-{
-    let a = FROM;
-    let e = TO;
-    pending::push_stretch(&mut ws[a..e], depth, last, count)
-}
-
-fn push_one(ws: &mut [u32], seed: u64) -> bool
-    requires { length ws.old ≡ 80 }
-{
-    let depth = words::draw(seed, 2, ENTRIES);
-    let id = words::draw(seed, 3, 30000);
-    one(ws, depth, id);
-    false
-}
-
-fn push_stretch(ws: &mut [u32], seed: u64) -> bool
-    requires { length ws.old ≡ 80 }
-{
-    let depth = words::draw(seed, 4, ENTRIES);
-    let last = words::draw(seed, 5, 30000);
-    let count = words::draw(seed, 6, 3);
-    stretch(ws, depth, last, count) == depth
-}
-
-// Whether the call was to push a stretch of no place.
-pub fn call(ws: &mut [u32], which: u64, seed: u64) -> bool
-    requires { length ws.old ≡ 80 }
-{
-    match which {
-        0 => top(ws, seed),
-        1 => push_one(ws, seed),
-        _ => push_stretch(ws, seed),
-    }
-}
-
-fn show(rt: &impl Print, ws: &[u32], depth: usize) -> io::Result<()>
-    requires { (length ws.now ≡ 80) × (1 ≤ depth) × (depth ≤ 32) }
-{
-    let a = FROM;
-    let e = TO;
-    match pending::top(&ws[a..e], depth) {
-        pending::OnTop::TopOne(id) => text::number(rt, id as u64),
-        pending::OnTop::TopMany(last, count) => {
-            text::number(rt, last as u64)?;
-            text::number(rt, count as u64)
+impl Part for Pending {
+    fn plan(&self) -> Plan {
+        Plan {
+            name: "pending",
+            still: Some("idle"),
+            turns: 200,
+            calls: 3,
+            lo: FROM,
+            hi: TO,
+            bound: 40,
         }
     }
-}
 
-// The id 7, and on it the stretch of 3 places that ends at 5; a stretch of no place leaves the depth at 2.
-pub fn answers(rt: &impl Print, ws: &mut [u32; SIZE]) -> io::Result<()> {
-    one(ws, 0, 7);
-    text::number(rt, stretch(ws, 1, 5, 3) as u64)?;
-    text::number(rt, stretch(ws, 2, 9, 0) as u64)?;
-    show(rt, ws, 2)?;
-    show(rt, ws, 1)
+    // Every entry a stretch of two places.
+    fn good(&self, ws: &mut Words) {
+        for depth in 0..ENTRIES {
+            push_stretch(ws, depth, depth, 2);
+        }
+    }
+
+    // A stretch of no place changes no word.
+    fn call(&self, ws: &mut Words, which: u64, seed: u64) -> bool {
+        // A drawn number, not an enum: the enum would have to be made of the number by a match like this one.
+        match which {
+            0 => {
+                top(ws, 1 + words::draw(seed, 1, ENTRIES));
+                false
+            }
+            1 => {
+                push_one(
+                    ws,
+                    words::draw(seed, 2, ENTRIES),
+                    words::draw(seed, 3, 30000),
+                );
+                false
+            }
+            _ => {
+                let depth = words::draw(seed, 4, ENTRIES);
+                push_stretch(
+                    ws,
+                    depth,
+                    words::draw(seed, 5, 30000),
+                    words::draw(seed, 6, 3),
+                ) == depth
+            }
+        }
+    }
+
+    // The id 7, and on it the stretch of 3 places that ends at 5; a stretch of no place leaves the depth at 2.
+    fn answers(&self, rt: &impl Print, ws: &mut Words) -> io::Result<()> {
+        push_one(ws, 0, 7);
+        print!(rt; " {}", push_stretch(ws, 1, 5, 3))?;
+        print!(rt; " {}", push_stretch(ws, 2, 9, 0))?;
+        show(rt, ws, 2)?;
+        show(rt, ws, 1)
+    }
 }

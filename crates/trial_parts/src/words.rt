@@ -14,6 +14,8 @@ pub const FROM: usize = 8;
 
 pub const TO: usize = 72;
 
+pub type Words = [u32; SIZE];
+
 // The generator's next number: a word, of which the upper half is used where a small number is asked for.
 pub fn next(x: u64) -> u64
     ensures { result < 4294967296 }
@@ -39,44 +41,39 @@ pub fn draw_word(seed: u64, salt: u64, n: usize) -> u32
 }
 
 // Every lent word anew, each below `bound`.
-fn fill_small(ws: &mut [u32; SIZE], seed: u64, bound: u64)
+fn fill_small(ws: &mut Words, seed: u64, bound: u64)
     requires { 1 ≤ bound }
 {
-    let mut x = seed % 4294967296;
-    let mut i = FROM;
-    while i < TO {
-        x = (x * 1664525 + 1013904223) % 4294967296;
-        ws[i] = (x / 65536 % bound) as u32;
-        i += 1;
-    }
+    let mut x = seed;
+    ws[FROM..TO].fill_with(|| {
+        x = next(x);
+        (x / 65536 % bound) as u32
+    });
 }
 
 // Every lent word anew, and any.
-fn fill_wild(ws: &mut [u32; SIZE], seed: u64) {
-    let mut x = seed % 4294967296;
-    let mut i = FROM;
-    while i < TO {
-        x = (x * 1664525 + 1013904223) % 4294967296;
-        ws[i] = x as u32;
-        i += 1;
-    }
+fn fill_wild(ws: &mut Words, seed: u64) {
+    let mut x = seed;
+    ws[FROM..TO].fill_with(|| {
+        x = next(x);
+        x as u32
+    });
 }
 
 // One lent word anew, out of a number of the generator.
-fn damage(ws: &mut [u32; SIZE], x: u64, w: u32) {
-    let i = FROM + draw(x, 0, TO - FROM);
-    ws[i] = w;
+fn damage(ws: &mut Words, x: u64, w: u32) {
+    ws[FROM + draw(x, 0, TO - FROM)] = w;
 }
 
 // A lent word anew, below `bound`.
-fn damage_below(ws: &mut [u32; SIZE], x: u64, bound: usize)
+fn damage_below(ws: &mut Words, x: u64, bound: usize)
     requires { (1 ≤ bound) × (bound ≤ 100) }
 {
     damage(ws, x, draw_word(x, 1, bound));
 }
 
 // Two lent words anew, below `bound`.
-fn damage_small(ws: &mut [u32; SIZE], seed: u64, bound: usize)
+fn damage_small(ws: &mut Words, seed: u64, bound: usize)
     requires { (1 ≤ bound) × (bound ≤ 100) }
 {
     damage_below(ws, seed, bound);
@@ -84,7 +81,7 @@ fn damage_small(ws: &mut [u32; SIZE], seed: u64, bound: usize)
 }
 
 // Two lent words anew, and any.
-fn damage_wild(ws: &mut [u32; SIZE], seed: u64) {
+fn damage_wild(ws: &mut Words, seed: u64) {
     let x = next(seed);
     let y = next(x);
     damage(ws, x, y as u32);
@@ -97,7 +94,7 @@ pub fn wants_good(turn: u64) -> bool {
 }
 
 // Breaks the words in this turn's way: all of them small, so that most links stay inside; all below `bound`; all wild; a few small; a few wild.
-pub fn spoil(ws: &mut [u32; SIZE], turn: u64, bound: u64)
+pub fn spoil(ws: &mut Words, turn: u64, bound: u64)
     requires { (1 ≤ bound) × (bound ≤ 100) }
 {
     let seed = next(turn);

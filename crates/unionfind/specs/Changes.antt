@@ -9,8 +9,7 @@ use Rattle.std.proofs.Math.ListN.{get_or-eq_default}
 use Rattle.lists.specs.Reads.{at, get_or_more, get_or_map_or, length_more}
 use Rattle.lists.specs.Relabel.{relabel, relabel_hit, relabel_miss, Hit, relabel_cases}
 use Rattle.lists.specs.Tests.{when_yes, eq_or}
-use Rattle.lists.specs.Keeps.{upto}
-use Rattle.lists.specs.Keeps.{passes_more, passes_one_less}
+use Rattle.lists.specs.Keeps.{upto, passes_more, passes_one_less}
 use Rattle.unionfind.specs.Words.{walk}
 use Rattle.unionfind.specs.Walks.{Ends, walk_root, walk_same}
 use Rattle.unionfind.specs.Forest.{Forest, class_count, root_low, walk_ends, parent_of_root, classes_le}

@@ -5,11 +5,10 @@ use Rattle.std.specs.Prelude.{◌≡◌, refl, ◌⊎◌, ℕ, ◌≤◌, ◌<�
 use Rattle.std.proofs.Common.{sym, ap, ◌∙◌, inl, inr, arith, ext_get_or}
 use mathlib.Core.List.{List, [], filter}
 use Rattle.std.proofs.Math.Decide.{ℕ_discrete}
-use Rattle.lists.specs.Reads.{at}
+use Rattle.lists.specs.Reads.{at, get_or_any}
 use Rattle.lists.specs.Tests.{lt_or}
 use Rattle.lists.specs.Keeps.{upto, length_upto, mem_upto, mem_filter, length_filter}
 use Rattle.lists.specs.Members.{mem_length}
-use Rattle.lists.specs.Reads.{get_or_any}
 use Rattle.unionfind.specs.Words.{walk}
 use Rattle.unionfind.specs.Walks.{Ends, walk_root, ends_suc, ends_more, walk_inside}
 

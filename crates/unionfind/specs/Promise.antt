@@ -1,18 +1,17 @@
 -- What each function promises: `exact` says what it does to any words, `inside`, `long` and `past` what any words leave certain,
 -- `law` what it does to a forest.
 -- Assumes nothing.
-use Rattle.std.specs.Prelude.{◌≡◌, refl, ◌≢◌, List, [], ◌∷◌, ◌++◌, map, ℕ, zero, suc, ◌+◌, ◌≤◌, ◌<◌, length, get_or, set}
+use Rattle.std.specs.Prelude.{Ok, Result, ◌≡◌, refl, ◌≢◌, List, [], ◌∷◌, ◌++◌, map, ℕ, zero, suc, ◌+◌, ◌≤◌, ◌<◌, length, get_or, set}
+use Rattle.broken.specs.declared.Broken.{Broken}
+use Rattle.broken.specs.Words.{broken}
 use Rattle.std.proofs.Common.{sym, ◌∙◌, arith, length-set, get_or-set_other}
 use Rattle.std.proofs.Math.Decide.{ℕ_discrete, dec_lt}
 use Rattle.lists.specs.Reads.{at}
 use Rattle.lists.specs.Relabel.{relabel}
 use Rattle.lists.specs.Tests.{when, zero_one}
-use Rattle.unionfind.specs.Words.{Stored, find_in, halve, Halved}
+use Rattle.unionfind.specs.Words.{find_in, halve, Halved}
 use Rattle.unionfind.specs.Forest.{Forest}
 use Rattle.unionfind.specs.Sound.{find_sound, halve_sound}
-use Rattle.unionfind.specs.Changes.{new_forest, joined_forest}
-use Rattle.unionfind.specs.declared.Found.{Found}
-use Rattle.unionfind.specs.declared.Found.TheVariants.{FoundRoot, FoundLost}
 
 -- ---- the promises
 
@@ -21,17 +20,17 @@ pub record MakesSet (ps : List ℕ) (N : ℕ) (ps' : List ℕ) : Type 0 where
   pub exact : ps' ≡ set ps N N
   pub law : (C : ℕ) (R : List ℕ) → Forest ps N C R → Forest ps' (N + 1) (C + 1) (R ++ (N ∷ []))
 
-pub record Finds (ps : List ℕ) (N id : ℕ) (r : Found) : Type 0 where
+pub record Finds (ps : List ℕ) (N id : ℕ) (r : Result ℕ Broken) : Type 0 where
   pub exact : r ≡ find_in ps N N id
-  pub inside : (x : ℕ) → r ≡ FoundRoot x → x < N
-  pub law : (C : ℕ) (R : List ℕ) → Forest ps N C R → r ≡ FoundRoot (get_or R id id)
+  pub inside : (x : ℕ) → r ≡ Ok x → x < N
+  pub law : (C : ℕ) (R : List ℕ) → Forest ps N C R → r ≡ Ok (get_or R id id)
 
-pub record FindsMut (ps : List ℕ) (N id : ℕ) (r : Found) (ps' : List ℕ) : Type 0 where
+pub record FindsMut (ps : List ℕ) (N id : ℕ) (r : Result ℕ Broken) (ps' : List ℕ) : Type 0 where
   pub exact : halve ps N N id ≡ record { answer = r; left = ps' }
-  pub inside : (x : ℕ) → r ≡ FoundRoot x → x < N
+  pub inside : (x : ℕ) → r ≡ Ok x → x < N
   pub long : length ps' ≡ length ps
   pub past : (i : ℕ) → N ≤ i → at ps' i ≡ at ps i
-  pub law : (C : ℕ) (R : List ℕ) → Forest ps N C R → (r ≡ FoundRoot (get_or R id id)) × Forest ps' N C R
+  pub law : (C : ℕ) (R : List ℕ) → Forest ps N C R → (r ≡ Ok (get_or R id id)) × Forest ps' N C R
 
 pub record Unites (ps : List ℕ) (root1 root2 : ℕ) (ps' : List ℕ) : Type 0 where
   pub exact : ps' ≡ set ps root2 root1
@@ -40,19 +39,19 @@ pub record Unites (ps : List ℕ) (root1 root2 : ℕ) (ps' : List ℕ) : Type 0 
 
 -- ---- a root that is found is an id, on any words
 
-find_inside : (ps : List ℕ) (N f i x : ℕ) → i < N → find_in ps N f i ≡ FoundRoot x → x < N
+find_inside : (ps : List ℕ) (N f i x : ℕ) → i < N → find_in ps N f i ≡ Ok x → x < N
 unfolding find_in
 find_inside ps N zero i x h e = zero_one cc
 find_inside ps N (suc f) i x h e = go (ℕ_discrete (at ps i) i) (dec_lt (at ps i) N) (find_inside ps N f (at ps i) x) e
   where
-    go : (d : Dec (at ps i ≡ i)) (l : Dec (at ps i < N)) → (at ps i < N → find_in ps N f (at ps i) ≡ FoundRoot x → x < N)
-        → when d (FoundRoot i) (when l (find_in ps N f (at ps i)) FoundLost) ≡ FoundRoot x → x < N
+    go : (d : Dec (at ps i ≡ i)) (l : Dec (at ps i < N)) → (at ps i < N → find_in ps N f (at ps i) ≡ Ok x → x < N)
+        → when d (Ok i) (when l (find_in ps N f (at ps i)) broken) ≡ Ok x → x < N
     go (yes w) l ih e = let q : i ≡ x = cc in omega arith
     go (no n) (yes l) ih e = ih l e
     go (no n) (no l) ih e = zero_one cc
 
 record Fair (ps : List ℕ) (N : ℕ) (o : Halved) : Type 0 where
-  low : (x : ℕ) → o.answer ≡ FoundRoot x → x < N
+  low : (x : ℕ) → o.answer ≡ Ok x → x < N
   size : length o.left ≡ length ps
   rest : (j : ℕ) → N ≤ j → at o.left j ≡ at ps j
 
@@ -69,7 +68,7 @@ halve_fair (suc f) ps N i h = go (ℕ_discrete (at ps i) i) (dec_lt (at ps i) N)
     g = at ps (at ps i)
 
     lost : Halved
-    lost = record { answer = FoundLost; left = ps }
+    lost = record { answer = broken; left = ps }
 
     stopped : Fair ps N lost
     stopped = record { low = λ x e. zero_one cc; size = refl; rest = λ j l. refl }
@@ -82,7 +81,7 @@ halve_fair (suc f) ps N i h = go (ℕ_discrete (at ps i) i) (dec_lt (at ps i) N)
     }
 
     go : (d : Dec (at ps i ≡ i)) (l : Dec (at ps i < N)) (m : Dec (g < N)) → (g < N → Fair (set ps i g) N (halve (set ps i g) N f g))
-        → Fair ps N (when d (record { answer = FoundRoot i; left = ps }) (when l (when m (halve (set ps i g) N f g) lost) lost))
+        → Fair ps N (when d (record { answer = Ok i; left = ps }) (when l (when m (halve (set ps i g) N f g) lost) lost))
     go (yes w) l m ih = record { low = λ x e. let q : i ≡ x = cc in omega arith; size = refl; rest = λ j l. refl }
     go (no n) (yes l) (yes m) ih = stored (ih m)
     go (no n) (yes l) (no m) ih = stopped
@@ -90,17 +89,14 @@ halve_fair (suc f) ps N i h = go (ℕ_discrete (at ps i) i) (dec_lt (at ps i) N)
 
 -- ---- the promises from what the code computes
 
-pub makes_set : (ps : List ℕ) (N : ℕ) (ps' : List ℕ) → N < length ps → Stored ps N N ps' → MakesSet ps N ps'
-makes_set ps N ps' h e = record { exact = e.is; law = λ C R F. rw e.is (new_forest F h) }
-
-pub finds : (ps : List ℕ) (N id : ℕ) (r : Found) → id < N → r ≡ find_in ps N N id → Finds ps N id r
+pub finds : (ps : List ℕ) (N id : ℕ) (r : Result ℕ Broken) → id < N → r ≡ find_in ps N N id → Finds ps N id r
 finds ps N id r h e = record {
   exact = e;
   inside = λ x f. find_inside ps N N id x h (sym e ∙ f);
   law = λ C R F. e ∙ find_sound F id h;
 }
 
-pub finds_mut : (ps : List ℕ) (N id : ℕ) (r : Found) (ps' : List ℕ) → id < N → halve ps N N id ≡ record { answer = r; left = ps' } → FindsMut ps N id r ps'
+pub finds_mut : (ps : List ℕ) (N id : ℕ) (r : Result ℕ Broken) (ps' : List ℕ) → id < N → halve ps N N id ≡ record { answer = r; left = ps' } → FindsMut ps N id r ps'
 finds_mut ps N id r ps' h e =
     let m : Fair ps N (record { answer = r; left = ps' }) = rw e at (halve_fair N ps N id h) in
     record {
@@ -110,9 +106,3 @@ finds_mut ps N id r ps' h e =
       past = m.rest;
       law = λ C R F. let s = rw e at (halve_sound F id h) in (s.answers, s.keeps);
     }
-
-pub unites : (ps : List ℕ) (root1 root2 : ℕ) (ps' : List ℕ) → Stored ps root2 root1 ps' → Unites ps root1 root2 ps'
-unites ps root1 root2 ps' e = record {
-  exact = e.is;
-  law = λ N C D R F one h1 h2 apart r1 r2. rw e.is (joined_forest F root1 root2 h1 h2 apart r1 r2 D one);
-}

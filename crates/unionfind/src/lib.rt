@@ -9,83 +9,59 @@
 #![tactic(auto)]
 
 ghost use Rattle.std.specs.Prelude.{◌<◌, ◌≤◌, ◌^◌, length};
-ghost use Rattle.unionfind.specs.Words.{Loaded, Stored};
 ghost use Rattle.unionfind.specs.Promise.{MakesSet, Finds, FindsMut, Unites};
 
-// A root; or nothing, if the chain leaves the ids or does not end, which no forest does.
-#[derive(Clone, Copy)]
-pub enum Found {
-    FoundRoot(usize),
-    FoundLost,
-}
-
-fn load(ps: &[u32], id: usize) -> usize
-    requires { id < length ps.now }
-    ensures { Loaded ps.now id result }
-{
-    ps[id] as usize
-}
-
-fn store(ps: &mut [u32], id: usize, parent: usize)
-    requires { (id < length ps.old) × (parent < 2 ^ 32) }
-    ensures { Stored ps.old id parent ps.new }
-{
-    ps[id] = parent as u32;
-}
+use broken::Broken;
 
 // One id more, its own root. The new id is `ids`.
 pub fn make_set(ps: &mut [u32], ids: usize)
     requires { (ids < length ps.old) × (ids < 2 ^ 32) }
     ensures { MakesSet ps.old ids ps.new }
 {
-    store(ps, ids, ids);
+    ps[ids] = ids as u32;
 }
 
 // The root of `id`. No more than `ids` links are followed: a chain of ids that is no circle has fewer.
-pub fn find(ps: &[u32], ids: usize, id: usize) -> Found
+pub fn find(ps: &[u32], ids: usize, id: usize) -> Result<usize, Broken>
     requires { (id < ids) × (ids ≤ length ps.now) × (ids ≤ 65536) }
     ensures { Finds ps.now ids id result }
 {
     let mut current = id;
-    let mut fuel = ids;
-    while 0 < fuel {
-        let parent = load(ps, current);
+    for followed in 0..ids {
+        let parent = ps[current] as usize;
         if parent == current {
-            return Found::FoundRoot(current);
+            return Ok(current);
         }
         if ids <= parent {
-            return Found::FoundLost;
+            return Err(Broken);
         }
         current = parent;
-        fuel -= 1;
     }
-    Found::FoundLost
+    Err(Broken)
 }
 
 // The root of `id`, with path halving: each id on the way gets its grandparent for its parent.
-pub fn find_mut(ps: &mut [u32], ids: usize, id: usize) -> Found
+pub fn find_mut(ps: &mut [u32], ids: usize, id: usize) -> Result<usize, Broken>
     requires { (id < ids) × (ids ≤ length ps.old) × (ids ≤ 65536) }
     ensures { FindsMut ps.old ids id result ps.new }
 {
     let mut current = id;
-    let mut fuel = ids;
-    while 0 < fuel {
-        let parent = load(ps, current);
+    for followed in 0..ids {
+        let parent = ps[current] as usize;
         if parent == current {
-            return Found::FoundRoot(current);
+            return Ok(current);
         }
         if ids <= parent {
-            return Found::FoundLost;
+            return Err(Broken);
         }
-        let grandparent = load(ps, parent);
+        let grandparent = ps[parent] as usize;
         if ids <= grandparent {
-            return Found::FoundLost;
+            return Err(Broken);
         }
-        store(ps, current, grandparent);
+        ps[current] = grandparent as u32;
         current = grandparent;
-        fuel -= 1;
     }
-    Found::FoundLost
+    Err(Broken)
 }
 
 // Joins the classes of two roots: `root1` becomes the leader.
@@ -93,5 +69,5 @@ pub fn union(ps: &mut [u32], root1: usize, root2: usize)
     requires { (root1 < length ps.old) × (root2 < length ps.old) × (root1 < 2 ^ 32) }
     ensures { Unites ps.old root1 root2 ps.new }
 {
-    store(ps, root2, root1);
+    ps[root2] = root1 as u32;
 }

@@ -1,6 +1,7 @@
 -- The ways out of `join_roots`: which of two roots stays, by the lengths of their parent lists.
 -- Assumes nothing.
-use Rattle.std.specs.Prelude.{List, ◌≢◌, ◌≡◌, ◌+◌, ◌<◌, ◌≤◌, ℕ}
+use Rattle.std.specs.Prelude.{Ok, Result, List, ◌≢◌, ◌≡◌, ◌+◌, ◌<◌, ◌≤◌, ℕ}
+use Rattle.broken.specs.declared.Broken.{Broken}
 use Rattle.std.proofs.Common.{◌∙◌, arith}
 use Rattle.std.proofs.Math.ListN.{length}
 use Rattle.steps.specs.Graph.{Graph, root, uses}
@@ -8,15 +9,13 @@ use Rattle.steps.specs.Machine.{union_by}
 use Rattle.cells.specs.Reading.{Word}
 use Rattle.holds.specs.Holds.{HoldsAt}
 use Rattle.holds.specs.ParentsLaws.{parents_len}
-use Rattle.holds.specs.declared.Stepped.{Stepped}
-use Rattle.holds.specs.declared.Stepped.TheVariants.{SteppedTo}
 use Rattle.layout.specs.Head.{HeadOk}
 use Rattle.layout.specs.View.{view}
 use Rattle.layout.specs.declared.Head.{Head}
 use Rattle.uniting.specs.Says.{JoinSays, MergeSays, merged_numbers}
 
 module _ (h : Head) (a b : ℕ) (ws : List ℕ) (ok : HeadOk (length ws) h) (q : (a < h.ids) × (b < h.ids) × (a ≢ b)) (x y : ℕ)
-    (X : Word (view h.n h.m ws).uses (a + h.n + h.n) x) (Y : Word (view h.n h.m ws).uses (b + h.n + h.n) y) (r : Stepped) (ws' : List ℕ) where
+    (X : Word (view h.n h.m ws).uses (a + h.n + h.n) x) (Y : Word (view h.n h.m ws).uses (b + h.n + h.n) y) (r : Result Head Broken) (ws' : List ℕ) where
   -- a parent list is as long as its word says
   counts : (g : Graph) (u : ℕ) → HoldsAt h u (view h.n h.m ws) g → (x ≡ length (uses g.parents a)) × (y ≡ length (uses g.parents b))
   counts g u H = (
@@ -30,7 +29,7 @@ module _ (h : Head) (a b : ℕ) (ws : List ℕ) (ok : HeadOk (length ws) h) (q :
     where
       go : (g : Graph) (u : ℕ) → HoldsAt h u (view h.n h.m ws) g → root g.roots a ≡ a → root g.roots b ≡ b
           → (n : a ≢ b) (s : Dec (length (uses g.parents a) < length (uses g.parents b)))
-          → (k : Head) × (r ≡ SteppedTo k) × HoldsAt k u (view h.n h.m ws') (union_by g a b (no n) s).graph
+          → (k : Head) × (r ≡ Ok k) × HoldsAt k u (view h.n h.m ws') (union_by g a b (no n) s).graph
       go g u H ra rb n (no z) = let m = M.sound g u H ra rb in (merged_numbers h m.0, m.1, m.2)
       go g u H ra rb n (yes z) = absurd (let c = counts g u H in omega arith)
 
@@ -40,6 +39,6 @@ module _ (h : Head) (a b : ℕ) (ws : List ℕ) (ok : HeadOk (length ws) h) (q :
     where
       go : (g : Graph) (u : ℕ) → HoldsAt h u (view h.n h.m ws) g → root g.roots a ≡ a → root g.roots b ≡ b
           → (n : a ≢ b) (s : Dec (length (uses g.parents a) < length (uses g.parents b)))
-          → (k : Head) × (r ≡ SteppedTo k) × HoldsAt k u (view h.n h.m ws') (union_by g a b (no n) s).graph
+          → (k : Head) × (r ≡ Ok k) × HoldsAt k u (view h.n h.m ws') (union_by g a b (no n) s).graph
       go g u H ra rb n (no z) = absurd (let c = counts g u H in omega arith)
       go g u H ra rb n (yes z) = let m = M.sound g u H rb ra in (merged_numbers h m.0, m.1, m.2)

@@ -1,12 +1,12 @@
 -- One class taken up by another: what the four parts promise, taken together, is the machine's `merge`. And on words that hold a graph there is room for it.
 -- Assumes nothing.
-use Rattle.std.specs.Prelude.{List, ◌≢◌, ◌≡◌, refl, ◌*◌, ◌+◌, ◌-◌, ◌<◌, ◌≤◌, ℕ}
+use Rattle.std.specs.Prelude.{Result, false, true, List, ◌≢◌, ◌≡◌, refl, ◌*◌, ◌+◌, ◌-◌, ◌<◌, ◌≤◌, ℕ}
+use Rattle.broken.specs.declared.Broken.{Broken}
 use Rattle.std.proofs.Common.{arith}
 use Rattle.lists.specs.Reads.{at}
 use Rattle.steps.specs.Graph.{Graph, root}
 use Rattle.steps.specs.Machine.{merge}
 use Rattle.cells.specs.Changes.{Joined}
-use Rattle.cells.specs.declared.Change.{Change}
 use Rattle.holds.specs.NodesLaws.{nodes_merge}
 use Rattle.holds.specs.Holds.{HoldsAt, Range}
 use Rattle.holds.specs.HoldsLaws.{false≢true}
@@ -30,7 +30,7 @@ module _ {h : Head} {u : ℕ} {v : View} {g : Graph} (H : HoldsAt h u v g) (stay
       let o = H.range.ids_in in
       (omega arith, omega arith)
 
-  module _ (us' st' ms' f' : List ℕ) (r q : Change) (d : ℕ) (J : Joined v.uses us' h.n h.m stay lose r)
+  module _ (us' st' ms' f' : List ℕ) (r q : Result Unit Broken) (d : ℕ) (J : Joined v.uses us' h.n h.m stay lose r)
       (K : PushesStretch v.pending h.depth (at v.uses lose) (at v.uses (lose + h.n + h.n)) d st')
       (M : Joined v.members ms' h.n h.n stay lose q) (F : Unites v.forest stay lose f') where
     merge_range : Range (merged_numbers h d)

@@ -1,6 +1,8 @@
 -- The ways out of `unite`: a union, put together from its steps.
 -- Assumes nothing.
-use Rattle.std.specs.Prelude.{Bool, false, true, List, ◌≢◌, ◌≡◌, refl, ◌<◌, ℕ, length}
+use Rattle.std.specs.Prelude.{Ok, Result, Bool, false, true, List, ◌≢◌, ◌≡◌, refl, ◌<◌, ℕ, length}
+use Rattle.broken.specs.declared.Broken.{Broken}
+use Rattle.broken.specs.Words.{broken}
 use Rattle.std.proofs.Common.{◌∙◌, ap, subst, sym, arith}
 use Rattle.std.proofs.Math.Decide.{dec_lt, ℕ_discrete}
 use Rattle.lists.specs.Tests.{zero_one}
@@ -9,8 +11,6 @@ use Rattle.steps.specs.Machine.{Joined, marked, union, union_by}
 use Rattle.holds.specs.Holds.{HoldsAt}
 use Rattle.holds.specs.HoldsLaws.{holds_forest, holds_unclean, unclean}
 use Rattle.holds.specs.Inside.{Inside, inside_lent, inside_then}
-use Rattle.holds.specs.declared.Stepped.{Stepped}
-use Rattle.holds.specs.declared.Stepped.TheVariants.{SteppedBroken, SteppedTo}
 use Rattle.layout.specs.Cut.{forest}
 use Rattle.layout.specs.Head.{HeadOk}
 use Rattle.layout.specs.Lent.{Lent, lent_next}
@@ -18,11 +18,9 @@ use Rattle.layout.specs.View.{View, view}
 use Rattle.layout.specs.declared.Head.{Head}
 use Rattle.unionfind.specs.Forest.{root_root}
 use Rattle.unionfind.specs.Promise.{FindsMut}
-use Rattle.unionfind.specs.declared.Found.{Found}
-use Rattle.unionfind.specs.declared.Found.TheVariants.{FoundLost, FoundRoot}
 use Rattle.uniting.specs.Near.{NearIds}
+use Rattle.uniting.specs.declared.United.{United}
 use Rattle.uniting.specs.Says.{JoinSays, UniteSays, told}
-use Rattle.uniting.specs.declared.United.TheVariants.{UnitedBroken, UnitedNo, UnitedYes}
 
 -- ---- the machine's union, by its two tests
 
@@ -54,12 +52,12 @@ says_yes g a b n (no s) = refl
 
 -- ---- the ids' roots
 
-never_found : {A : Type 0} (r : Found) (x : ℕ) → r ≡ FoundLost → r ≡ FoundRoot x → A
+never_found : {A : Type 0} (r : Result ℕ Broken) (x : ℕ) → r ≡ broken → r ≡ Ok x → A
 never_found r x e f = zero_one cc
 
 -- a root found, and the graph as it was
-found : (h : Head) (i : ℕ) (ws ws1 : List ℕ) (r : Found) (g : Graph) (u : ℕ) → Lent forest h.n h.m (λ f f'. FindsMut f h.ids i r f') ws ws1
-    → HoldsAt h u (view h.n h.m ws) g → (r ≡ FoundRoot (root g.roots i)) × HoldsAt h u (view h.n h.m ws1) g
+found : (h : Head) (i : ℕ) (ws ws1 : List ℕ) (r : Result ℕ Broken) (g : Graph) (u : ℕ) → Lent forest h.n h.m (λ f f'. FindsMut f h.ids i r f') ws ws1
+    → HoldsAt h u (view h.n h.m ws) g → (r ≡ Ok (root g.roots i)) × HoldsAt h u (view h.n h.m ws1) g
 unfolding root
 found h i ws ws1 r g u R H =
     let a = lent_next R refl in
@@ -73,43 +71,38 @@ root_own h u v g i H l = root_root H.forest i l
 
 -- ---- the ways out
 
-no_yes : {A : Type 0} (k : Head) → UnitedBroken ≡ UnitedYes k → A
-no_yes k e = zero_one cc
-
-no_no : {A : Type 0} (k : Head) → UnitedBroken ≡ UnitedNo k → A
-no_no k e = zero_one cc
+no_answer : {A : Type 0} (s : United) → broken ≡ Ok s → A
+no_answer s e = zero_one cc
 
 unclean_near : (len : ℕ) (h : Head) → HeadOk len h → NearIds len h (unclean h)
 unclean_near len h ok = record { near = record { ok = omega arith; n_is = refl; m_is = refl }; ids_is = refl; places_is = refl }
 
-module _ (h : Head) (i j : ℕ) (ws ws1 : List ℕ) (r1 : Found) (R1 : Lent forest h.n h.m (λ f f'. FindsMut f h.ids i r1 f') ws ws1) where
-  pub unite_lost : r1 ≡ FoundLost → UniteSays h i j ws UnitedBroken ws1
+module _ (h : Head) (i j : ℕ) (ws ws1 : List ℕ) (r1 : Result ℕ Broken) (R1 : Lent forest h.n h.m (λ f f'. FindsMut f h.ids i r1 f') ws ws1) where
+  pub unite_lost : r1 ≡ broken → UniteSays h i j ws broken ws1
   unite_lost e = record {
     inside = inside_lent (λ v l. refl) R1;
-    range_yes = λ k. no_yes k;
-    range_no = λ k. no_no k;
+    range = λ s. no_answer s;
     sound = λ g u H. never_found r1 _ e (found h i ws ws1 r1 g u R1 H).0;
   }
 
-  module _ (ws2 : List ℕ) (r2 : Found) (R2 : Lent forest h.n h.m (λ f f'. FindsMut f h.ids j r2 f') ws1 ws2) where
+  module _ (ws2 : List ℕ) (r2 : Result ℕ Broken) (R2 : Lent forest h.n h.m (λ f f'. FindsMut f h.ids j r2 f') ws1 ws2) where
     inside2 : Inside h.n h.m ws ws2
     inside2 = inside_then (inside_lent (λ v l. refl) R1) (inside_lent (λ v l. refl) R2)
 
     held : (g : Graph) (u : ℕ) → HoldsAt h u (view h.n h.m ws) g → HoldsAt h u (view h.n h.m ws2) g
     held g u H = (found h j ws1 ws2 r2 g u R2 (found h i ws ws1 r1 g u R1 H).1).1
 
-    second : (g : Graph) (u : ℕ) → HoldsAt h u (view h.n h.m ws) g → r2 ≡ FoundRoot (root g.roots j)
+    second : (g : Graph) (u : ℕ) → HoldsAt h u (view h.n h.m ws) g → r2 ≡ Ok (root g.roots j)
     second g u H = (found h j ws1 ws2 r2 g u R2 (found h i ws ws1 r1 g u R1 H).1).0
 
-    pub unite_lost_2 : r2 ≡ FoundLost → UniteSays h i j ws UnitedBroken ws2
+    pub unite_lost_2 : r2 ≡ broken → UniteSays h i j ws broken ws2
     unite_lost_2 e = record {
       inside = inside2;
-      range_yes = λ k. no_yes k;
-      range_no = λ k. no_no k;
+      range = λ s. no_answer s;
       sound = λ g u H. never_found r2 _ e (second g u H);
     }
 
-    module _ (x y : ℕ) (ex : r1 ≡ FoundRoot x) (ey : r2 ≡ FoundRoot y) where
+    module _ (x y : ℕ) (ex : r1 ≡ Ok x) (ey : r2 ≡ Ok y) where
       x_is : (g : Graph) (u : ℕ) → HoldsAt h u (view h.n h.m ws) g → x ≡ root g.roots i
       x_is g u H = let e = (found h i ws ws1 r1 g u R1 H).0 in cc
 
@@ -121,44 +114,49 @@ module _ (h : Head) (i j : ℕ) (ws ws1 : List ℕ) (r1 : Found) (R1 : Lent fore
       unite_roots ok ne = (subst (λ (n : ℕ). HeadOk n h) (sym inside2.size) ok, (R1.did.inside x ex, R2.did.inside y ey, ne))
 
       -- one class already
-      pub unite_same : HeadOk (length ws) h → x ≡ y → UniteSays h i j ws (UnitedNo (unclean h)) ws2
+      abbrev pub same : United
+      same = record { head = unclean h; joined = false }
+
+      pub unite_same : HeadOk (length ws) h → x ≡ y → UniteSays h i j ws (Ok same) ws2
       unite_same ok e = record {
         inside = inside2;
-        range_yes = λ k f. zero_one cc;
-        range_no = λ k f. let z : unclean h ≡ k = cc in subst (λ (s : Head). NearIds (length ws) h s) z (unclean_near (length ws) h ok);
+        range = λ s f. let z : same ≡ s = cc in subst (λ (t : United). NearIds (length ws) h t.head) z (unclean_near (length ws) h ok);
         sound = λ g u H.
             let s = union_same g i j (sym (x_is g u H) ∙ e ∙ y_is g u H) in
-            subst (λ (t : Joined). (k : Head) × (UnitedNo (unclean h) ≡ told t.answer k) × HoldsAt k u (view h.n h.m ws2) t.graph) (sym s)
+            subst (λ (t : Joined). (k : Head) × (Ok same ≡ told t.answer k) × HoldsAt k u (view h.n h.m ws2) t.graph) (sym s)
             (unclean h, refl, holds_unclean (held g u H));
       }
 
-      module _ (ws3 : List ℕ) (r3 : Stepped) (J : JoinSays h x y ws2 r3 ws3) (hi : i < h.ids) (hj : j < h.ids) (ne : x ≢ y) where
+      module _ (ws3 : List ℕ) (r3 : Result Head Broken) (J : JoinSays h x y ws2 r3 ws3) (hi : i < h.ids) (hj : j < h.ids) (ne : x ≢ y) where
         inside4 : Inside h.n h.m ws ws3
         inside4 = inside_then inside2 J.inside
 
         -- the two roots are joined
-        both : (g : Graph) (u : ℕ) → HoldsAt h u (view h.n h.m ws) g → (k : Head) × (r3 ≡ SteppedTo k) × (told (union g i j).answer k ≡ UnitedYes k)
+        both : (g : Graph) (u : ℕ) → HoldsAt h u (view h.n h.m ws) g → (k : Head) × (r3 ≡ Ok k) × (told (union g i j).answer k ≡ Ok (record { head = k; joined = true }))
             × HoldsAt k u (view h.n h.m ws3) (union g i j).graph
         both g u H =
             let ei = x_is g u H in
             let ej = y_is g u H in
             let J' = rw (ei, ej) at J in
-            union_apart (λ t. (k : Head) × (r3 ≡ SteppedTo k) × (told t.answer k ≡ UnitedYes k) × HoldsAt k u (view h.n h.m ws3) t.graph) g i j (rw (ei, ej) at ne)
+            union_apart (λ t. (k : Head) × (r3 ≡ Ok k) × (told t.answer k ≡ Ok (record { head = k; joined = true })) × HoldsAt k u (view h.n h.m ws3) t.graph) g i j (rw (ei, ej) at ne)
             (λ n s. let a = J'.sound g u (held g u H) (root_own _ _ _ g i H hi) (root_own _ _ _ g j H hj) n s in
             (a.0, a.1, ap (λ (b : Bool). told b a.0) (says_yes g (root g.roots i) (root g.roots j) n s), a.2))
 
-        pub unite_broken : r3 ≡ SteppedBroken → UniteSays h i j ws UnitedBroken ws3
+        pub unite_broken : r3 ≡ broken → UniteSays h i j ws broken ws3
         unite_broken e = record {
           inside = inside4;
-          range_yes = λ k. no_yes k;
-          range_no = λ k. no_no k;
+          range = λ s. no_answer s;
           sound = λ g u H. let b = both g u H in let f = b.1 in zero_one cc;
         }
 
-        pub unite_yes : (k : Head) → r3 ≡ SteppedTo k → UniteSays h i j ws (UnitedYes k) ws3
+        abbrev pub joined : Head → United
+        joined k = record { head = k; joined = true }
+
+        pub unite_yes : (k : Head) → r3 ≡ Ok k → UniteSays h i j ws (Ok (joined k)) ws3
         unite_yes k e = record {
           inside = inside4;
-          range_yes = λ s f. let z : k ≡ s = cc in subst (λ (n : ℕ). NearIds n h s) inside2.size (J.range s (e ∙ ap SteppedTo z));
-          range_no = λ s f. zero_one cc;
-          sound = λ g u H. let b = both g u H in let f = b.1 in let z : b.0 ≡ k = cc in (b.0, ap UnitedYes (sym z) ∙ sym b.2, b.3);
+          range = λ s f.
+              let z : joined k ≡ s = cc in
+              subst (λ (t : United). NearIds (length ws) h t.head) z (subst (λ (n : ℕ). NearIds n h k) inside2.size (J.range k e));
+          sound = λ g u H. let b = both g u H in let f = b.1 in let z : b.0 ≡ k = cc in (b.0, ap (λ (t : Head). Ok (joined t)) (sym z) ∙ sym b.2, b.3);
         }

@@ -13,62 +13,45 @@ ghost use Rattle.std.specs.Prelude.{◌≢◌, ◌<◌, length};
 ghost use Rattle.layout.specs.Head.{HeadOk};
 ghost use Rattle.uniting.specs.Says.{MergeSays, JoinSays, UniteSays};
 
-use holds::Stepped;
+use broken::Broken;
 use language::Id;
 use layout::Head;
-use parts::Found;
 
-// Joined, or one class already, each with the new numbers of the head; or words that no calls could have produced.
+// The new numbers of the head, and whether two classes were joined: of one class already, they were not.
 #[derive(Clone, Copy)]
-pub enum United {
-    UnitedYes(Head),
-    UnitedNo(Head),
-    UnitedBroken,
+pub struct United {
+    pub head: Head,
+    pub joined: bool,
 }
 
 // The class of the root `lose` goes into that of the root `stay`.
-fn merge(ws: &mut [u32], h: Head, stay: Id, lose: Id) -> Stepped
+fn merge(ws: &mut [u32], h: Head, stay: Id, lose: Id) -> Result<Head, Broken>
     requires head_ok { HeadOk (length ws.old) h }
     requires stay_lt_ids { (stay.0 < h.ids) × (lose.0 < h.ids) × (stay.0 ≢ lose.0) }
     ensures { MergeSays h stay.0 lose.0 ws.old result ws.new }
 {
-    let n = h.n;
-    let depth = h.depth;
-    let classes = h.classes;
-    if 2 * n <= depth {
-        return Stepped::SteppedBroken;
+    if 2 * h.n <= h.depth {
+        return Err(Broken);
     }
-    if classes == 0 {
-        return Stepped::SteppedBroken;
+    if h.classes == 0 {
+        return Err(Broken);
     }
     let last = parts::on_uses::last(ws, h, lose);
     let count = parts::on_uses::len(ws, h, lose);
-    match parts::on_uses::join(ws, h, stay, lose) {
-        cells::Change::ChangeBroken => Stepped::SteppedBroken,
-        cells::Change::ChangeDone => {
-            let d = parts::on_pending::push_stretch(ws, h, depth, last, count);
-            match parts::on_members::join(ws, h, stay, lose) {
-                cells::Change::ChangeBroken => Stepped::SteppedBroken,
-                cells::Change::ChangeDone => {
-                    parts::on_forest::union(ws, h, stay, lose);
-                    let k = Head {
-                        n,
-                        m: h.m,
-                        ids: h.ids,
-                        places: h.places,
-                        depth: d,
-                        classes: classes - 1,
-                        clean: false,
-                    };
-                    Stepped::SteppedTo(k)
-                }
-            }
-        }
-    }
+    parts::on_uses::join(ws, h, stay, lose)?;
+    let depth = parts::on_pending::push_stretch(ws, h, h.depth, last, count);
+    parts::on_members::join(ws, h, stay, lose)?;
+    parts::on_forest::union(ws, h, stay, lose);
+    Ok(Head {
+        depth,
+        classes: h.classes - 1,
+        clean: false,
+        ..h
+    })
 }
 
 // Two roots that differ: the first stays unless its parent list is strictly shorter.
-fn join_roots(ws: &mut [u32], h: Head, a: Id, b: Id) -> Stepped
+fn join_roots(ws: &mut [u32], h: Head, a: Id, b: Id) -> Result<Head, Broken>
     requires head_ok { HeadOk (length ws.old) h }
     requires a_lt_ids { (a.0 < h.ids) × (b.0 < h.ids) × (a.0 ≢ b.0) }
     ensures { JoinSays h a.0 b.0 ws.old result ws.new }
@@ -83,33 +66,20 @@ fn join_roots(ws: &mut [u32], h: Head, a: Id, b: Id) -> Stepped
 }
 
 // The classes of two ids become one. Of one class already, the graph only becomes unclean.
-pub fn unite(ws: &mut [u32], h: Head, i: Id, j: Id) -> United
+pub fn unite(ws: &mut [u32], h: Head, i: Id, j: Id) -> Result<United, Broken>
     requires head_ok { HeadOk (length ws.old) h }
     requires i_lt_ids { (i.0 < h.ids) × (j.0 < h.ids) }
     ensures { UniteSays h i.0 j.0 ws.old result ws.new }
 {
-    match parts::on_forest::find_mut(ws, h, i) {
-        Found::FoundLost => United::UnitedBroken,
-        Found::FoundRoot(x) => match parts::on_forest::find_mut(ws, h, j) {
-            Found::FoundLost => United::UnitedBroken,
-            Found::FoundRoot(y) => {
-                if x.0 == y.0 {
-                    let k = Head {
-                        n: h.n,
-                        m: h.m,
-                        ids: h.ids,
-                        places: h.places,
-                        depth: h.depth,
-                        classes: h.classes,
-                        clean: false,
-                    };
-                    return United::UnitedNo(k);
-                }
-                match join_roots(ws, h, x, y) {
-                    Stepped::SteppedBroken => United::UnitedBroken,
-                    Stepped::SteppedTo(k) => United::UnitedYes(k),
-                }
-            }
-        },
+    let x = parts::on_forest::find_mut(ws, h, i)?;
+    let y = parts::on_forest::find_mut(ws, h, j)?;
+    if x.0 == y.0 {
+        let head = Head { clean: false, ..h };
+        return Ok(United {
+            head,
+            joined: false,
+        });
     }
+    let head = join_roots(ws, h, x, y)?;
+    Ok(United { head, joined: true })
 }

@@ -1,9 +1,8 @@
 -- The walk in the scratch words: how its stack stands there, and what a store into the stack or into the listing leaves as it was. `Standing` says that the words hold
 -- the walk on its way to a given listing, with the prices and marks by which it goes.
 -- Assumes nothing.
-use Rattle.std.specs.Prelude.{List, [], ◌∷◌, ◌≢◌, ◌⊎◌, ◌≡◌, ◌*◌, ◌+◌, ◌<◌, suc, ℕ, length}
+use Rattle.std.specs.Prelude.{List, [], ◌∷◌, ◌≢◌, ◌⊎◌, ◌≡◌, ◌*◌, ◌+◌, ◌<◌, suc, ℕ, length, None}
 use Rattle.std.proofs.Common.{inl, inr, ◌∙◌, sym, arith}
-use Rattle.std.proofs.Math.Option.{none}
 use Rattle.lists.specs.Reads.{at}
 use Rattle.lists.specs.Stores.{puts, puts_hit, puts_miss}
 use Rattle.lists.specs.Tests.{eq_or}
@@ -59,7 +58,7 @@ laid_none n s h = record { few = omega arith; places = h; classes = λ p lt. abs
 abbrev pub listing_stores : ℕ → ℕ → ℕ → List (ℕ × ℕ)
 listing_stores n k c = (4 * n + k, c) ∷ (3 * n + c, k + 1) ∷ []
 
-module _ (n : ℕ) (s s' : List ℕ) (l : Listing) (k c : ℕ) (x : Term) (size : length s ≡ 6 * n) (L : Laid n s l) (new : spot c l ≡ none) (hc : c < n) (hk : k < n) (is : length l ≡ k)
+module _ (n : ℕ) (s s' : List ℕ) (l : Listing) (k c : ℕ) (x : Term) (size : length s ≡ 6 * n) (L : Laid n s l) (new : spot c l ≡ None) (hc : c < n) (hk : k < n) (is : length l ≡ k)
     (e : s' ≡ puts s (listing_stores n k c)) where
   place : (d : ℕ) → d < n → (d ≡ c) ⊎ (d ≢ c) → at s' (3 * n + d) ≡ place_word (spot d ((c, x) ∷ l))
   place d lt (inl q) =

@@ -1,8 +1,9 @@
 -- One step of the walk: `step` promises that it goes on by one of the two moves of Way, so that the words still hold the walk on its way to the same listing, and that
 -- it never refuses words that hold a clean graph with its prices. `Onward` bounds the number of steps on any words.
 -- Assumes nothing.
-use Rattle.std.specs.Prelude.{List, [], ◌∷◌, ◌≢◌, ◌≡◌, refl, ◌*◌, ◌+◌, ◌-◌, ◌<◌, ◌≤◌, suc, ℕ, length, set}
-use Rattle.std.proofs.Math.Option.{Option, none, some}
+use Rattle.std.specs.Prelude.{None, Ok, Option, Result, Some, List, [], ◌∷◌, ◌≢◌, ◌≡◌, refl, ◌*◌, ◌+◌, ◌-◌, ◌<◌, ◌≤◌, suc, ℕ, length, set}
+use Rattle.broken.specs.declared.Broken.{Broken}
+use Rattle.broken.specs.Words.{broken}
 use Rattle.std.proofs.Common.{◌∙◌, ap, subst, sym, arith}
 use Rattle.std.proofs.Math.Decide.{ℕ_discrete}
 use Rattle.lists.specs.Keeps.{length_filter, length_upto, upto}
@@ -29,11 +30,7 @@ use Rattle.price.specs.Size.{AstSize}
 use Rattle.walking.specs.Kids.{NextKidOf, told}
 use Rattle.walking.specs.State.{Behind, Stacked, Standing, laid_kept, laid_more, listing_stores, prices_kept, stacked_kept}
 use Rattle.walking.specs.Way.{Top, Way, few_listed, fine_list, in_roots, unlisted, way_list, way_push, way_top}
-use Rattle.walking.specs.declared.NextKid.{NextKid}
-use Rattle.walking.specs.declared.NextKid.TheVariants.{NextKidBroken, NextKidIs, NextKidNone}
 use Rattle.walking.specs.declared.Reached.{Reached}
-use Rattle.walking.specs.declared.Stepped.{Stepped}
-use Rattle.walking.specs.declared.Stepped.TheVariants.{SteppedBroken, SteppedTo}
 
 -- ---- a class listed
 
@@ -51,12 +48,12 @@ listed_class n m k c ws ws1 ws2 A B = lent_twice (λ x y z p q. q ∙ ap (λ (l 
 abbrev pub Onward : ℕ → ℕ → ℕ → Reached → Type 0
 Onward n k d a = (a.listed ≤ n) × (a.depth ≤ n) × (2 * a.listed + a.depth ≡ 2 * k + d + 1)
 
-pub record Steps (h : Head) (k d : ℕ) (ws : List ℕ) (r : Stepped) (ws' : List ℕ) : Type 0 where
+pub record Steps (h : Head) (k d : ℕ) (ws : List ℕ) (r : Result Reached Broken) (ws' : List ℕ) : Type 0 where
   pub only : Lent scratch h.n h.m (Behind h.n) ws ws'
-  pub onward : (a : Reached) → r ≡ SteppedTo a → Onward h.n k d a
+  pub onward : (a : Reached) → r ≡ Ok a → Onward h.n k d a
   pub law : (g : Graph) (t : Table ℕ) (B : Backed AstSize (class_nodes g) t) (K : Ranked AstSize (class_nodes g) t) (m : Listing) → Classed h (view h.n h.m ws) g
       → Standing h g t B K m (view h.n h.m ws).scratch k d
-      → (a : Reached) × (r ≡ SteppedTo a) × Standing h g t B K m (view h.n h.m ws').scratch a.listed a.depth
+      → (a : Reached) × (r ≡ Ok a) × Standing h g t B K m (view h.n h.m ws').scratch a.listed a.depth
 
 -- ---- the top of the stack
 
@@ -70,17 +67,17 @@ pub record Atop (n : ℕ) (g : Graph) (t : Table ℕ) (B : Backed AstSize (class
 few_roots : (g : Graph) → length (class_roots g) ≤ ids g
 few_roots g = omega (arith, length_filter (λ (i : ℕ). ℕ_discrete (root g.roots i) i) (upto (ids g)), length_upto (ids g))
 
-told_some : (o : Option ℕ) (x : Id) → NextKidIs x ≡ told o → o ≡ some x.0
-told_some none x e = zero_one cc
-told_some (some y) x e = let z : x ≡ record { 0 = y } = cc in ap (λ (i : Id). some i.0) (sym z)
+told_some : (o : Option ℕ) (x : Id) → Ok (Some x) ≡ told o → o ≡ Some x.0
+told_some None x e = zero_one cc
+told_some (Some y) x e = let z : x ≡ record { 0 = y } = cc in ap (λ (i : Id). Some i.0) (sym z)
 
-told_none : (o : Option ℕ) → NextKidNone ≡ told o → o ≡ none
-told_none none e = refl
-told_none (some y) e = zero_one cc
+told_none : (o : Option ℕ) → Ok None ≡ told o → o ≡ None
+told_none None e = refl
+told_none (Some y) e = zero_one cc
 
-told_not : (o : Option ℕ) → NextKidBroken ≡ told o → ⊥
-told_not none e = zero_one cc
-told_not (some y) e = zero_one cc
+told_not : (o : Option ℕ) → broken ≡ told o → ⊥
+told_not None e = zero_one cc
+told_not (Some y) e = zero_one cc
 
 module _ (h : Head) (g : Graph) (t : Table ℕ) (B : Backed AstSize (class_nodes g) t) (K : Ranked AstSize (class_nodes g) t) (m : Listing) (ss : List ℕ) (k d c : ℕ)
     (S : Standing h g t B K m ss k d) where
@@ -101,7 +98,7 @@ module _ (h : Head) (g : Graph) (t : Table ℕ) (B : Backed AstSize (class_nodes
 
   module _ (A : Atop h.n g t B K m ss d c S.left S.now) (size : length ss ≡ 6 * h.n) (ss' : List ℕ) where
     -- the child x of the top goes onto the stack
-    module _ (x : ℕ) (e : unlisted S.now A.top.best.node.kids ≡ some x) where
+    module _ (x : ℕ) (e : unlisted S.now A.top.best.node.kids ≡ Some x) where
       pushed : (j : ℕ) × (suc j ≡ S.left) × Way AstSize (class_nodes g) t B K j (x ∷ c ∷ A.below) S.now m
       pushed = way_push AstSize (class_nodes g) t B K S.left c A.below S.now m S.fine A.top x e
 
@@ -132,7 +129,7 @@ module _ (h : Head) (g : Graph) (t : Table ℕ) (B : Backed AstSize (class_nodes
           hit = rw q (puts_hit ((5 * h.n + d, x) ∷ []) ss 0 (omega arith) (omega arith) tt)
 
     -- the top is listed
-    module _ (e : unlisted S.now A.top.best.node.kids ≡ none) where
+    module _ (e : unlisted S.now A.top.best.node.kids ≡ None) where
       fine_more : Fine AstSize (class_nodes g) t B K ((c, with_places S.now A.top.best.node) ∷ S.now)
       fine_more = fine_list AstSize (class_nodes g) t B K S.left c A.below S.now m S.fine A.top e
 
@@ -161,82 +158,89 @@ module _ (h : Head) (g : Graph) (t : Table ℕ) (B : Backed AstSize (class_nodes
 
 -- ---- the ways out
 
-to_broken : {A : Type 0} (a : Reached) → SteppedBroken ≡ SteppedTo a → A
+to_broken : {A : Type 0} (a : Reached) → broken ≡ Ok a → A
 to_broken a e = zero_one cc
 
-module _ (h : Head) (k d : ℕ) (ws : List ℕ) (ok : HeadOk (length ws) h) (hk : k ≤ h.n) (some_deep : 0 < d) (hd : d ≤ h.n) (c : ℕ)
+module _ (h : Head) (k d : ℕ) (ws : List ℕ) (ok : HeadOk (length ws) h) (in_range : (k ≤ h.n) × (0 < d) × (d ≤ h.n)) (c : ℕ)
     (L : Loaded (view h.n h.m ws).scratch (5 * h.n + (d - 1)) c) where
   -- the words hold no walk of g
   abbrev NoWalk : Graph → Type 0
   NoWalk g = (t : Table ℕ) (B : Backed AstSize (class_nodes g) t) (K : Ranked AstSize (class_nodes g) t) (m : Listing) → Standing h g t B K m (view h.n h.m ws).scratch k d → ⊥
 
   -- a refusal, where no clean graph's words come to it
-  refused : ((g : Graph) → Classed h (view h.n h.m ws) g → NoWalk g) → Steps h k d ws SteppedBroken ws
+  refused : ((g : Graph) → Classed h (view h.n h.m ws) g → NoWalk g) → Steps h k d ws broken ws
   refused never = record { only = lent_same ws (λ i l. refl); onward = λ a e. to_broken a e; law = λ g t B K m C S. absurd (never g C t B K m S) }
 
   module _ (g : Graph) (C : Classed h (view h.n h.m ws) g) (t : Table ℕ) (B : Backed AstSize (class_nodes g) t) (K : Ranked AstSize (class_nodes g) t) (m : Listing)
       (S : Standing h g t B K m (view h.n h.m ws).scratch k d) where
     on : Atop h.n g t B K m (view h.n h.m ws).scratch d c S.left S.now
-    on = atop h g t B K m (view h.n h.m ws).scratch k d c S some_deep L.is
+    on = atop h g t B K m (view h.n h.m ws).scratch k d c S in_range.1 L.is
 
     top_in : c < h.ids
     top_in =
         let q = roots_from g c (in_roots AstSize (class_nodes g) (class_roots g) (classed_listed C) t B K c on.top.best on.top.chosen) in
         omega (arith, q.0, classed_ids C)
 
-    next_is : (r : NextKid) → NextKidOf h c (view h.n h.m ws) r → r ≡ told (unlisted S.now on.top.best.node.kids)
+    next_is : (r : Result (Option Id) Broken) → NextKidOf h c (view h.n h.m ws) r → r ≡ told (unlisted S.now on.top.best.node.kids)
     next_is r N = N.law g t on.top.best S.now C S.prices on.top.chosen S.laid.places
 
     room : length (class_roots g) ≤ h.n
     room = omega (arith, few_roots g, classed_ids C, ok.ids_in)
 
-  pub step_stray : h.ids ≤ c → Steps h k d ws SteppedBroken ws
+  pub step_stray : h.ids ≤ c → Steps h k d ws broken ws
   step_stray off = refused (λ g C t B K m S. omega (arith, top_in g C t B K m S))
 
   size : length (view h.n h.m ws).scratch ≡ 6 * h.n
   size = get_length scratch h.n h.m ws ok.lent
 
-  module _ (lt : c < h.ids) (r : NextKid) (N : NextKidOf h c (view h.n h.m ws) r) where
-    pub step_broken : r ≡ NextKidBroken → Steps h k d ws SteppedBroken ws
+  module _ (lt : c < h.ids) (r : Result (Option Id) Broken) (N : NextKidOf h c (view h.n h.m ws) r) where
+    pub step_broken : r ≡ broken → Steps h k d ws broken ws
     step_broken e = refused (λ g C t B K m S. told_not (unlisted S.now (on g C t B K m S).top.best.node.kids) (sym e ∙ next_is g C t B K m S r N))
 
-    module _ (x : Id) (e : r ≡ NextKidIs x) where
+    module _ (x : Id) (e : r ≡ Ok (Some x)) where
       first_is : (g : Graph) (C : Classed h (view h.n h.m ws) g) (t : Table ℕ) (B : Backed AstSize (class_nodes g) t) (K : Ranked AstSize (class_nodes g) t) (m : Listing)
-          (S : Standing h g t B K m (view h.n h.m ws).scratch k d) → unlisted S.now (on g C t B K m S).top.best.node.kids ≡ some x.0
+          (S : Standing h g t B K m (view h.n h.m ws).scratch k d) → unlisted S.now (on g C t B K m S).top.best.node.kids ≡ Some x.0
       first_is g C t B K m S = told_some (unlisted S.now (on g C t B K m S).top.best.node.kids) x (sym e ∙ next_is g C t B K m S r N)
 
-      pub step_full : d ≡ h.n → Steps h k d ws SteppedBroken ws
+      pub step_full : d ≡ h.n → Steps h k d ws broken ws
       step_full f =
           refused
           (λ g C t B K m S.
           omega (arith, push_room h g t B K m (view h.n h.m ws).scratch k d c S (on g C t B K m S) size [] x.0 (first_is g C t B K m S), room g C t B K m S))
 
-      pub step_push : (ws' : List ℕ) → d ≢ h.n → Lent scratch h.n h.m (Stored (5 * h.n + d) x.0) ws ws' → Steps h k d ws (SteppedTo (record { listed = k; depth = d + 1 })) ws'
+      pub step_push : (ws' : List ℕ) → d ≢ h.n → Lent scratch h.n h.m (Stored (5 * h.n + d) x.0) ws ws' → Steps h k d ws (Ok (record { listed = k; depth = d + 1 })) ws'
       step_push ws' ne T = record {
         only = lent_map (λ s s' q i l. rw q (puts_miss ((5 * h.n + d, x.0) ∷ []) s i (omega arith, tt))) T;
-        onward = λ a q. let z : record { listed = k; depth = d + 1 } ≡ a = cc in rw (← z) (hk, omega arith, omega arith);
-        law = λ g t B K m C S.
-            (record { listed = k; depth = d + 1 }, refl, stand_push h g t B K m (view h.n h.m ws).scratch k d c S (on g C t B K m S) size _ x.0 (first_is g C t B K m S) (omega arith) T.did);
+        onward = λ a q. let z : record { listed = k; depth = d + 1 } ≡ a = cc in rw (← z) (in_range.0, omega (arith, in_range.2), omega arith);
+        law = λ g t B K m C S. (
+          record { listed = k; depth = d + 1 },
+          refl,
+          stand_push h g t B K m (view h.n h.m ws).scratch k d c S (on g C t B K m S)
+              size _ x.0 (first_is g C t B K m S) (omega (arith, in_range.2)) T.did,
+        );
       }
 
-    module _ (e : r ≡ NextKidNone) where
+    module _ (e : r ≡ Ok None) where
       none_left : (g : Graph) (C : Classed h (view h.n h.m ws) g) (t : Table ℕ) (B : Backed AstSize (class_nodes g) t) (K : Ranked AstSize (class_nodes g) t) (m : Listing)
-          (S : Standing h g t B K m (view h.n h.m ws).scratch k d) → unlisted S.now (on g C t B K m S).top.best.node.kids ≡ none
+          (S : Standing h g t B K m (view h.n h.m ws).scratch k d) → unlisted S.now (on g C t B K m S).top.best.node.kids ≡ None
       none_left g C t B K m S = told_none (unlisted S.now (on g C t B K m S).top.best.node.kids) (sym e ∙ next_is g C t B K m S r N)
 
-      pub step_crowded : k ≡ h.n → Steps h k d ws SteppedBroken ws
+      pub step_crowded : k ≡ h.n → Steps h k d ws broken ws
       step_crowded f =
           refused
           (λ g C t B K m S.
           omega (arith, list_room h g t B K m (view h.n h.m ws).scratch k d c S (on g C t B K m S) size [] (none_left g C t B K m S) C, room g C t B K m S))
 
-      pub step_list : (ws' : List ℕ) → k ≢ h.n → Lent scratch h.n h.m (ListsAt h.n k c) ws ws' → Steps h k d ws (SteppedTo (record { listed = k + 1; depth = d - 1 })) ws'
+      pub step_list : (ws' : List ℕ) → k ≢ h.n → Lent scratch h.n h.m (ListsAt h.n k c) ws ws' → Steps h k d ws (Ok (record { listed = k + 1; depth = d - 1 })) ws'
       step_list ws' ne T = record {
         only = lent_map (λ s s' q i l. rw q (puts_miss (listing_stores h.n k c) s i (omega arith, (omega arith, tt)))) T;
-        onward = λ a q. let z : record { listed = k + 1; depth = d - 1 } ≡ a = cc in rw (← z) (omega arith, omega arith, omega arith);
+        onward = λ a q.
+            let z : record { listed = k + 1; depth = d - 1 } ≡ a = cc in
+            rw (← z) (omega (arith, in_range.0), omega (arith, in_range.2), omega (arith, in_range.1));
         law = λ g t B K m C S. (
           record { listed = k + 1; depth = d - 1 },
           refl,
-          stand_list h g t B K m (view h.n h.m ws).scratch k d c S (on g C t B K m S) size _ (none_left g C t B K m S) (omega arith) (omega (arith, ok.ids_in)) T.did,
+          stand_list h g t B K m (view h.n h.m ws).scratch k d c S (on g C t B K m S)
+              size _ (none_left g C t B K m S) (omega (arith, in_range.0)) (omega (arith, ok.ids_in)) T.did,
         );
       }

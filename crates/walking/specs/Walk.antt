@@ -1,8 +1,9 @@
 -- The whole walk: `list_form` promises that on the words of a clean graph with its prices, where no class is listed yet, it leaves the listing of the asked class's
 -- cheapest form (`listing` of price) in the scratch part as Laid (pricing) has it, and answers its length. On any words it writes the scratch words from 3n on only.
 -- Assumes nothing.
-use Rattle.std.specs.Prelude.{true, List, [], ◌∷◌, ◌≢◌, ◌≡◌, refl, ◌*◌, ◌+◌, ◌<◌, ◌≤◌, ℕ, length}
-use Rattle.std.proofs.Math.Option.{some}
+use Rattle.std.specs.Prelude.{Ok, Result, Some, true, List, [], ◌∷◌, ◌≢◌, ◌≡◌, refl, ◌*◌, ◌+◌, ◌<◌, ◌≤◌, ℕ, length}
+use Rattle.broken.specs.declared.Broken.{Broken}
+use Rattle.broken.specs.Words.{broken}
 use Rattle.std.proofs.Common.{◌∙◌, ap, sym}
 use native.Mathlib.Omega.{arith}
 use Rattle.lists.specs.Options.{none≢some}
@@ -29,28 +30,23 @@ use Rattle.price.specs.Size.{AstSize}
 use Rattle.pricing.specs.Costs.{FindsCosts}
 use Rattle.pricing.specs.Entries.{Prices}
 use Rattle.pricing.specs.Laid.{Laid}
-use Rattle.pricing.specs.declared.Found.{Found}
 use Rattle.walking.specs.State.{Behind, Standing, laid_kept, laid_none, prices_kept}
 use Rattle.walking.specs.Step.{Steps}
 use Rattle.walking.specs.Way.{Way, way_end, way_start}
-use Rattle.walking.specs.declared.Listed.{Listed}
-use Rattle.walking.specs.declared.Listed.TheVariants.{ListedBroken, ListedIs}
 use Rattle.walking.specs.declared.Reached.{Reached}
-use Rattle.walking.specs.declared.Stepped.{Stepped}
-use Rattle.walking.specs.declared.Stepped.TheVariants.{SteppedBroken, SteppedTo}
 
 -- ---- the promises
 
 -- the scratch words ss have the listing m, with the prices by which it was made
-pub record FormLaid (h : Head) (g : Graph) (t : Table ℕ) (m : Listing) (o : Listed) (ss : List ℕ) : Type 0 where
-  pub is : o ≡ ListedIs (length m)
+pub record FormLaid (h : Head) (g : Graph) (t : Table ℕ) (m : Listing) (o : Result ℕ Broken) (ss : List ℕ) : Type 0 where
+  pub is : o ≡ Ok (length m)
   pub laid : Laid h.n ss m
   pub prices : Prices g h.n ss t
 
 -- from one class on the stack, and none listed
-pub record Walks (h : Head) (ws : List ℕ) (o : Listed) (ws' : List ℕ) : Type 0 where
+pub record Walks (h : Head) (ws : List ℕ) (o : Result ℕ Broken) (ws' : List ℕ) : Type 0 where
   pub only : Lent scratch h.n h.m (Behind h.n) ws ws'
-  pub few : (k : ℕ) → o ≡ ListedIs k → k ≤ h.n
+  pub few : (k : ℕ) → o ≡ Ok k → k ≤ h.n
   pub law : (g : Graph) (t : Table ℕ) (B : Backed AstSize (class_nodes g) t) (K : Ranked AstSize (class_nodes g) t) (m : Listing) → Classed h (view h.n h.m ws) g
       → Standing h g t B K m (view h.n h.m ws).scratch 0 1 → FormLaid h g t m o (view h.n h.m ws').scratch
 
@@ -59,11 +55,11 @@ pub record Ready (h : Head) (g : Graph) (r : ℕ) (ss : List ℕ) : Type 0 where
   pub prices : Prices g h.n ss (table AstSize g)
   pub unplaced : (c : ℕ) → c < h.n → at ss (3 * h.n + c) ≡ 0
   pub best : Best ℕ
-  pub entry : look r (table AstSize g) ≡ some best
+  pub entry : look r (table AstSize g) ≡ Some best
 
-pub record ListsForm (h : Head) (r : ℕ) (ws : List ℕ) (o : Listed) (ws' : List ℕ) : Type 0 where
+pub record ListsForm (h : Head) (r : ℕ) (ws : List ℕ) (o : Result ℕ Broken) (ws' : List ℕ) : Type 0 where
   pub only : Lent scratch h.n h.m (Behind h.n) ws ws'
-  pub few : (k : ℕ) → o ≡ ListedIs k → k ≤ h.n
+  pub few : (k : ℕ) → o ≡ Ok k → k ≤ h.n
   pub law : (g : Graph) → Classed h (view h.n h.m ws) g → Ready h g r (view h.n h.m ws).scratch
       → FormLaid h g (table AstSize g) (listing g (table AstSize g) r) o (view h.n h.m ws').scratch
 
@@ -79,30 +75,30 @@ module _ (h : Head) (ws : List ℕ) where
   pub walking_start : Walking h 0 1 ws ws
   walking_start = record { only = lent_same ws (λ i l. refl); law = λ g t B K m C S. S }
 
-  module _ (k d : ℕ) (ws1 ws2 : List ℕ) (A : Walking h k d ws ws1) (o : Stepped) (W : Steps h k d ws1 o ws2) where
+  module _ (k d : ℕ) (ws1 ws2 : List ℕ) (A : Walking h k d ws ws1) (o : Result Reached Broken) (W : Steps h k d ws1 o ws2) where
     both : Lent scratch h.n h.m (Behind h.n) ws ws2
     both = lent_twice (λ x y z p q i l. q i l ∙ p i l) A.only W.only
 
-    pub walking_more : (a : Reached) → o ≡ SteppedTo a → Walking h a.listed a.depth ws ws2
+    pub walking_more : (a : Reached) → o ≡ Ok a → Walking h a.listed a.depth ws ws2
     walking_more a e = record { only = both; law = λ g t B K m C S. one g t B K m (W.law g t B K m (classed_lent A.only C) (A.law g t B K m C S)) }
       where
         one : (g : Graph) (t : Table ℕ) (B : Backed AstSize (class_nodes g) t) (K : Ranked AstSize (class_nodes g) t) (m : Listing)
-            → (x : Reached) × (o ≡ SteppedTo x) × Standing h g t B K m (view h.n h.m ws2).scratch x.listed x.depth
+            → (x : Reached) × (o ≡ Ok x) × Standing h g t B K m (view h.n h.m ws2).scratch x.listed x.depth
             → Standing h g t B K m (view h.n h.m ws2).scratch a.listed a.depth
         one g t B K m (x, q, S) = let z : x ≡ a = cc (q, e) in rw (← z) S
 
-    pub walk_broken : o ≡ SteppedBroken → Walks h ws ListedBroken ws2
+    pub walk_broken : o ≡ broken → Walks h ws broken ws2
     walk_broken e = record {
       only = both;
       few = λ j q. zero_one cc;
       law = λ g t B K m C S. let s = W.law g t B K m (classed_lent A.only C) (A.law g t B K m C S) in absurd (apart s.0 (sym e ∙ s.1));
     }
       where
-        apart : (a : Reached) → SteppedBroken ≡ SteppedTo a → ⊥
+        apart : (a : Reached) → broken ≡ Ok a → ⊥
         apart a q = zero_one cc
 
   -- the stack is empty
-  pub walk_done : (k d : ℕ) (ws' : List ℕ) → k ≤ h.n → d ≡ 0 → Walking h k d ws ws' → Walks h ws (ListedIs k) ws'
+  pub walk_done : (k d : ℕ) (ws' : List ℕ) → k ≤ h.n → d ≡ 0 → Walking h k d ws ws' → Walks h ws (Ok k) ws'
   walk_done k d ws' le e A = record {
     only = A.only;
     few = λ j q. let z : k ≡ j = cc in rw (← z) le;
@@ -110,8 +106,8 @@ module _ (h : Head) (ws : List ℕ) where
   }
     where
       last : (g : Graph) (t : Table ℕ) (B : Backed AstSize (class_nodes g) t) (K : Ranked AstSize (class_nodes g) t) (m : Listing)
-          → Standing h g t B K m (view h.n h.m ws').scratch k d → FormLaid h g t m (ListedIs k) (view h.n h.m ws').scratch
-      last g t B K m S = record { is = ap ListedIs (sym S.count ∙ ap length done); laid = rw (← done) S.laid; prices = S.prices }
+          → Standing h g t B K m (view h.n h.m ws').scratch k d → FormLaid h g t m (Ok k) (view h.n h.m ws').scratch
+      last g t B K m S = record { is = ap Ok (sym S.count ∙ ap length done); laid = rw (← done) S.laid; prices = S.prices }
         where
           go : (q : List ℕ) → length q ≡ d → Way AstSize (class_nodes g) t B K S.left q S.now m → S.now ≡ m
           go [] l w = way_end AstSize (class_nodes g) t B K S.left S.now m w
@@ -173,7 +169,7 @@ module _ (h : Head) (r : ℕ) (ws ws1 : List ℕ) (ok : HeadOk (length ws) h) (T
         way = w;
       }
 
-  pub form_done : (ws2 : List ℕ) (o : Listed) → Walks h ws1 o ws2 → ListsForm h r ws o ws2
+  pub form_done : (ws2 : List ℕ) (o : Result ℕ Broken) → Walks h ws1 o ws2 → ListsForm h r ws o ws2
   unfolding ss ss1
   form_done ws2 o W = record {
     only = lent_twice (λ x y z p q i l. q i l ∙ rw p (puts_miss ((5 * h.n, r) ∷ []) x i (omega (arith, ok.n_low), tt))) T W.only;
@@ -184,8 +180,8 @@ module _ (h : Head) (r : ℕ) (ws ws1 : List ℕ) (ok : HeadOk (length ws) h) (T
 -- ---- after the passes
 
 -- what `find_costs` leaves of words that hold a clean graph
-pub ready : (h : Head) (ws ws1 : List ℕ) (o : Found) → HeadIs (length ws) (hd ws) h → FindsCosts h ws o ws1 → (g : Graph) → Holds ws g → g.clean ≡ true → KidsKnown g
-    → (r : ℕ) (b : Best ℕ) → look r (table AstSize g) ≡ some b → Ready h g r (view h.n h.m ws1).scratch
+pub ready : (h : Head) (ws ws1 : List ℕ) (o : Result Unit Broken) → HeadIs (length ws) (hd ws) h → FindsCosts h ws o ws1 → (g : Graph) → Holds ws g → g.clean ≡ true → KidsKnown g
+    → (r : ℕ) (b : Best ℕ) → look r (table AstSize g) ≡ Some b → Ready h g r (view h.n h.m ws1).scratch
 ready h ws ws1 o q F g H c K r b e = record {
   prices = (F.law g H c K).1;
   unplaced = λ i l. F.only.did (3 * h.n + i) (omega arith) ∙ rw (scratch_clear ws h g q H) (get_or_copies (6 * h.n) (3 * h.n + i) 0);

@@ -22,16 +22,9 @@ ghost use Rattle.walking.specs.Kids.{FirstKid, NextKidOf};
 ghost use Rattle.walking.specs.Step.{ListsAt, Steps};
 ghost use Rattle.walking.specs.Walk.{ListsForm, Walks};
 
-use language::{Id, Node, wide};
+use broken::Broken;
+use language::{Id, Node};
 use layout::Head;
-
-// A child that is not listed, or none; broken are words that no calls could have produced.
-#[derive(Clone, Copy)]
-pub enum NextKid {
-    NextKidIs(Id),
-    NextKidNone,
-    NextKidBroken,
-}
 
 // How far the walk has come: how many classes are listed, and how many stand on the stack.
 #[derive(Clone, Copy)]
@@ -40,61 +33,38 @@ pub struct Reached {
     pub depth: usize,
 }
 
-#[derive(Clone, Copy)]
-pub enum Stepped {
-    SteppedTo(Reached),
-    SteppedBroken,
-}
-
-// How many classes are listed.
-#[derive(Clone, Copy)]
-pub enum Listed {
-    ListedIs(usize),
-    ListedBroken,
-}
-
 // ---- the next child
 
 // The first child of a node that is not listed.
-fn first_unlisted(ws: &[u32], h: Head, node: Node) -> NextKid
+fn first_unlisted(ws: &[u32], h: Head, node: Node) -> Result<Option<Id>, Broken>
     requires head_ok { HeadOk (length ws.now) h }
     requires count_le_places { node.count ≤ places }
     ensures { FirstKid h.n h.ids (view h.n h.m ws.now).scratch (node_of node) result }
 {
-    let n = h.n;
-    let k = wide(node.count);
-    let mut i: usize = 0;
-    while i < k {
-        let kid = node.child(i);
-        let c = wide(kid.0);
+    for kid in node.children() {
+        let c = kid.0 as usize;
         if h.ids <= c {
-            return NextKid::NextKidBroken;
+            return Err(Broken);
         }
-        let place = layout::scratch(ws, h, 3 * n + c);
+        let place = layout::scratch(ws, h, 3 * h.n + c);
         if place == 0 {
-            return NextKid::NextKidIs(kid);
+            return Ok(Some(*kid));
         }
-        i += 1;
     }
-    NextKid::NextKidNone
+    Ok(None)
 }
 
 // The first child of class c's chosen node that is not listed.
-fn next_kid(ws: &[u32], h: Head, c: Id) -> NextKid
+fn next_kid(ws: &[u32], h: Head, c: Id) -> Result<Option<Id>, Broken>
     requires head_ok { HeadOk (length ws.now) h }
     requires c_lt_n { c.0 < h.n }
     ensures { NextKidOf h c.0 (view h.n h.m ws.now) result }
 {
     let e = pricing::get_entry(ws, h, c);
     if e.mark == 0 {
-        return NextKid::NextKidBroken;
+        return Err(Broken);
     }
-    let got = egraph::root_node(ws, h, Id((e.mark - 1) as u32));
-    let out = got.out;
-    let node = got.node;
-    let egraph::NodeOut::NodeIs = out else {
-        return NextKid::NextKidBroken;
-    };
+    let node = egraph::root_node(ws, h, Id((e.mark - 1) as u32))?;
     first_unlisted(ws, h, node)
 }
 
@@ -112,49 +82,45 @@ fn list_class(ws: &mut [u32], h: Head, k: usize, class: Id)
     layout::set_scratch(ws, h, 3 * n + c, k + 1);
 }
 
-// One step, with d classes on the stack: the next child of the top goes onto it, or the top is listed.
-fn step(ws: &mut [u32], h: Head, from: Reached) -> Stepped
+// One step: the next child of the top of the stack goes onto it, or the top is listed.
+fn step(ws: &mut [u32], h: Head, from: Reached) -> Result<Reached, Broken>
     requires head_ok { HeadOk (length ws.old) h }
     requires listed_le_n { (from.listed ≤ h.n) × (0 < from.depth) × (from.depth ≤ h.n) }
     ensures { Steps h from.listed from.depth ws.old result ws.new }
 {
     let n = h.n;
-    let k = from.listed;
-    let d = from.depth;
-    let c = layout::scratch(ws, h, 5 * n + (d - 1));
+    let Reached { listed, depth } = from;
+    let c = layout::scratch(ws, h, 5 * n + (depth - 1));
     if h.ids <= c {
-        return Stepped::SteppedBroken;
+        return Err(Broken);
     }
     let top = Id(c as u32);
-    match next_kid(ws, h, top) {
-        NextKid::NextKidBroken => Stepped::SteppedBroken,
-        NextKid::NextKidIs(x) => {
-            if d == n {
-                return Stepped::SteppedBroken;
+    match next_kid(ws, h, top)? {
+        Some(kid) => {
+            if depth == n {
+                return Err(Broken);
             }
-            layout::set_scratch(ws, h, 5 * n + d, x.0 as usize);
-            let to = Reached {
-                listed: k,
-                depth: d + 1,
-            };
-            Stepped::SteppedTo(to)
+            layout::set_scratch(ws, h, 5 * n + depth, kid.0 as usize);
+            Ok(Reached {
+                depth: depth + 1,
+                ..from
+            })
         }
-        NextKid::NextKidNone => {
-            if k == n {
-                return Stepped::SteppedBroken;
+        None => {
+            if listed == n {
+                return Err(Broken);
             }
-            list_class(ws, h, k, top);
-            let to = Reached {
-                listed: k + 1,
-                depth: d - 1,
-            };
-            Stepped::SteppedTo(to)
+            list_class(ws, h, listed, top);
+            Ok(Reached {
+                listed: listed + 1,
+                depth: depth - 1,
+            })
         }
     }
 }
 
 // Steps until the stack is empty, from one class on it and none listed. Each step lists a class or goes one deeper, so that any words end within 3n steps.
-fn finish(ws: &mut [u32], h: Head) -> Listed
+fn finish(ws: &mut [u32], h: Head) -> Result<usize, Broken>
     requires { HeadOk (length ws.old) h }
     ensures { Walks h ws.old result ws.new }
 {
@@ -162,17 +128,15 @@ fn finish(ws: &mut [u32], h: Head) -> Listed
         listed: 0,
         depth: 1,
     };
+    // Not a `for`: how many steps there are depends on the prices, and each is refused where it meets broken words.
     while 0 < at.depth {
-        let Stepped::SteppedTo(to) = step(ws, h, at) else {
-            return Listed::ListedBroken;
-        };
-        at = to;
+        at = step(ws, h, at)?;
     }
-    Listed::ListedIs(at.listed)
+    Ok(at.listed)
 }
 
 // The listing of the cheapest form of class r, where no class is listed yet.
-pub fn list_form(ws: &mut [u32], h: Head, r: Id) -> Listed
+pub fn list_form(ws: &mut [u32], h: Head, r: Id) -> Result<usize, Broken>
     requires head_ok { HeadOk (length ws.old) h }
     requires r_lt_n { r.0 < h.n }
     ensures { ListsForm h r.0 ws.old result ws.new }

@@ -1,15 +1,20 @@
-use Rattle.language.proofs.Sized.{sized}
-use Rattle.language.specs.Struct.{count_kids}
-use Rattle.adding.specs.Asking.{probe_asked, probe_broken}
+use Rattle.std.proofs.Common.{Ok, ap, ◌∙◌}
+use native.Mathlib.Omega.{arith}
+use Rattle.broken.specs.Words.{is_broken}
+use Rattle.adding.specs.Asking.{probe_far, probe_lost, probe_none, probe_seen}
 use Rattle.adding.proofs.probe.Goals as goal
 
-pub with_roots-rooted-requires : goal.with_roots-rooted-requires
-with_roots-rooted-requires c = record { head_ok = c.requires.head_ok; count_le_places = c.requires.count_le_places.0; known = c.requires.count_le_places.1 }
+pub returns-in_err-key : goal.returns-in_err-key
+returns-in_err-key c = rw (is_broken _ c.from_residual.ensures.0) (probe_lost _ _ _ _ c.with_roots.ensures c.in_err-key.was)
+
+pub ask-requires-clause-le_n : goal.ask-requires-clause-le_n
+ask-requires-clause-le_n c = (omega (arith, c.requires.head_ok), omega (arith, (c.with_roots.ensures.found _ c.in_ok-key.was).few))
+
+pub returns-in-Some : goal.returns-in-Some
+returns-in-Some c = probe_far _ _ _ _ c.with_roots.ensures _ c.in_ok-key.was _ c.ask.ensures _ (c.in_ok-seen.was ∙ ap Ok c.in-Some.is) (omega arith)
 
 pub returns-in_default : goal.returns-in_default
-returns-in_default c = probe_broken _ _ _ _ c.with_roots-rooted.ensures c.in_default.is
+returns-in_default c = probe_seen _ _ _ _ c.with_roots.ensures _ c.in_ok-key.was _ c.ask.ensures _ (c.in_ok-seen.was ∙ ap Ok c.in-Some.is) (omega arith)
 
-pub returns : goal.returns
-returns c = let x = c.args.node in
-    let f = count_kids x (sized x c.well_formed.1.1.0) c.requires.count_le_places.0 in
-    probe_asked _ _ _ _ c.with_roots-rooted.ensures c.in-RootingDone.is f _ c.ask-asked.ensures _ c.judge-out.ensures
+pub returns-in_default-2 : goal.returns-in_default-2
+returns-in_default-2 c = probe_none _ _ _ _ c.with_roots.ensures _ c.in_ok-key.was _ c.ask.ensures _ c.in_ok-seen.was c.in_default.is

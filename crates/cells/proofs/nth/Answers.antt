@@ -1,9 +1,6 @@
 use native.Mathlib.Omega.{arith}
-use Rattle.cells.specs.Reading.{reach_past, reach_far, reach_stray, reach}
+use Rattle.cells.specs.Reading.{reach_far, reach_stray, reach}
 use Rattle.cells.proofs.nth.Goals as goal
-
-pub returns-then-k-len : goal.returns-then-k-len
-returns-then-k-len c = reach_past _ _ _ _ _ c.requires.list_lt_lists (omega (arith, c.len.ensures.exact))
 
 pub returns-then-k-cells : goal.returns-then-k-cells
 returns-then-k-cells c = reach_far _ _ _ _ _ c.requires.list_lt_lists (omega arith)

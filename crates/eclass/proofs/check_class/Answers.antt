@@ -1,28 +1,14 @@
+use Prim.Native.Nat.{◌-◌}
 use native.Mathlib.Omega.{arith}
-use Rattle.layout.specs.Head.{ok_fits}
-use Rattle.eclass.specs.Checks.{check_end, check_more, check_start, check_stop}
+use Rattle.eclass.specs.Checks.{check_end, check_more, check_stop}
+use Rattle.eclass.specs.ClassWalk.{back_none, back_step}
 use Rattle.eclass.proofs.check_class.Goals as goal
 
-pub len-left-requires : goal.len-left-requires
-len-left-requires c = record { fits = ok_fits c.requires.head_ok; list_lt_n = omega (arith, c.requires.head_ok.ids_in) }
-
-pub last-id-requires : goal.last-id-requires
-last-id-requires c = record { fits = ok_fits c.requires.head_ok; list_lt_n = omega (arith, c.requires.head_ok.ids_in) }
-
-pub loop-left-init : goal.loop-left-init
-loop-left-init c = λ r k e. check_start _ _ _ _ _ r _ _ k e
-
-pub fine_id-requires : goal.fine_id-requires
-fine_id-requires c = c.requires.head_ok
-
 pub returns-then-not-fine_id : goal.returns-then-not-fine_id
-returns-then-not-fine_id c = check_stop _ _ _ _ _ _ _ _ _ c.loop-left-test.true c.fine_id.ensures c.if-not-fine_id.true (c.loop-left.invariant _ c.len-left.ensures.exact c.last-id.ensures.exact)
+returns-then-not-fine_id c = check_stop _ _ _ _ _ _ _ _ _ (back_step _ _ _ (c.len-size.result - c.loop-passed.passed - 1) _ (omega arith)) _ c.fine_id.ensures c.loop-passed.invariant c.if-not-fine_id.true
 
-pub link-id-requires : goal.link-id-requires
-link-id-requires c = record { fits = ok_fits c.requires.head_ok; id_lt_n = omega (arith, c.requires.head_ok.ids_in, (c.fine_id.ensures.holds c.if-not-fine_id.false).low) }
-
-pub loop-left-preserved : goal.loop-left-preserved
-loop-left-preserved c = λ r k e. check_more _ _ _ _ _ _ _ _ _ _ c.loop-left-test.true c.link-id.ensures.exact c.fine_id.ensures c.if-not-fine_id.false (c.loop-left.invariant r k e)
+pub loop-passed-preserved : goal.loop-passed-preserved
+loop-passed-preserved c = check_more _ _ _ _ _ _ _ _ _ (rw c.link-id.ensures.exact (back_step _ _ _ _ _ (omega arith))) _ c.fine_id.ensures c.loop-passed.invariant c.if-not-fine_id.false
 
 pub returns : goal.returns
-returns c = check_end _ _ _ _ _ _ _ _ (omega arith) (c.loop-left.invariant _ c.len-left.ensures.exact c.last-id.ensures.exact)
+returns c = check_end _ _ _ _ _ _ _ (back_none _ _ _ _ (omega arith)) c.loop-passed.invariant

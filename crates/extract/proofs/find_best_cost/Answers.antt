@@ -1,21 +1,16 @@
-use mathlib.Core.Path.{◌∙◌, refl, sym}
-use native.Mathlib.Omega.{arith}
-use Rattle.layout.specs.Head.{head_is}
-use Rattle.egraph.specs.Answers.{ids_is, opened, pass, shut, stop}
-use Rattle.extract.specs.Cost.{clean_is, far_or_near, unclean_or}
+use Rattle.broken.specs.Words.{error_is}
+use Rattle.layout.specs.Head.{head_fits, lent_is}
+use Rattle.extract.specs.Cost.{cost_done, cost_refused}
 use Rattle.extract.proofs.find_best_cost.Goals as goal
 
-pub returns-then-h-i : goal.returns-then-h-i
-returns-then-h-i c = record { same = refl; says = opened _ _ c.read_head.ensures _ c.in-HeadGood.is (λ p. stop (omega (arith, ids_is p)) (far_or_near _ _) refl) }
+pub returns-in_err-h : goal.returns-in_err-h
+returns-in_err-h c = rw (error_is _ _ c.from_residual.ensures.1) (cost_refused _ _ _ (c.open.ensures.bad _ c.in_err-h.was))
 
-pub cost_open-requires : goal.cost_open-requires
-cost_open-requires c = record { head_is = head_is _ _ _ _ c.read_head.ensures c.in-HeadGood.is; id_lt_ids = (omega arith, c.if-h.true) }
+pub work_out-answer-requires : goal.work_out-answer-requires
+work_out-answer-requires c = let F = c.open.ensures.good _ c.in_ok-h.was in record { head_is = F.head_is; id_lt_ids = F.known }
 
-pub returns-then-h : goal.returns-then-h
-returns-then-h c = record { same = c.cost_open.ensures.ws_unchanged; says = opened _ _ c.read_head.ensures _ c.in-HeadGood.is (λ p. pass (omega (arith, ids_is p)) (far_or_near _ _) (pass (sym (clean_is p) ∙ c.if-h.true) (unclean_or _) c.cost_open.ensures.cost_open)) }
+pub clear_scratch-requires : goal.clear_scratch-requires
+clear_scratch-requires c = head_fits (lent_is c.work_out-answer.ensures.only (c.open.ensures.good _ c.in_ok-h.was).head_is)
 
-pub returns-in-HeadBad : goal.returns-in-HeadBad
-returns-in-HeadBad c = record { same = refl; says = shut _ _ c.read_head.ensures c.in-HeadBad.is refl }
-
-pub returns-else-h : goal.returns-else-h
-returns-else-h c = record { same = refl; says = opened _ _ c.read_head.ensures _ c.in-HeadGood.is (λ p. pass (omega (arith, ids_is p)) (far_or_near _ _) (stop (sym (clean_is p) ∙ c.if-h.false) (unclean_or _) refl)) }
+pub returns : goal.returns
+returns c = cost_done _ _ _ (c.open.ensures.good _ c.in_ok-h.was) _ _ _ c.work_out-answer.ensures c.clear_scratch.ensures

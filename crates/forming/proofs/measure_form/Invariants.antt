@@ -1,5 +1,5 @@
 use mathlib.Core.Path.{◌≡◌}
-use Prim.Native.Nat.{◌*◌, ◌-◌, ◌≤◌}
+use Prim.Native.Nat.{◌*◌, ◌≤◌}
 use lib.ListN.{length}
 use Rattle.spelling.specs.Pieces.{pieces}
 use Rattle.layout.specs.View.{view}
@@ -8,7 +8,6 @@ use Rattle.forming.specs.FormNode.{form_piece}
 use Rattle.forming.proofs.measure_form.Given as goal
 
 abbrev pub invariant-loop-p : goal.invariant-loop-p
-invariant-loop-p l = (l.p ≤ l.k) × (l.total ≡ length (pieces (form_piece l.h (view l.h.n l.h.m l.ws)) l.p)) × (l.total ≤ 11 * l.p) × FineForm l.h (view l.h.n l.h.m l.ws) l.p
-
-abbrev pub decreases-loop-p : goal.decreases-loop-p
-decreases-loop-p l = l.k - l.p
+invariant-loop-p l =
+    let v = view l.h.n l.h.m l.ws in
+    (l.total ≡ length (pieces (form_piece l.h v) l.p)) × (l.total ≤ 11 * l.p) × FineForm l.h v l.p

@@ -1,11 +1,7 @@
-use Prim.Native.Nat.{◌-◌, ◌≤◌}
 use Rattle.spelling.specs.Pieces.{Wrote, pieces}
 use Rattle.layout.specs.View.{view}
 use Rattle.forming.specs.FormNode.{form_piece}
 use Rattle.forming.proofs.put_form.Given as goal
 
 abbrev pub invariant-loop-p : goal.invariant-loop-p
-invariant-loop-p l = (l.p ≤ l.k) × Wrote l.initial.out 0 (pieces (form_piece l.h (view l.h.n l.h.m l.ws)) l.p) l.at l.out
-
-abbrev pub decreases-loop-p : goal.decreases-loop-p
-decreases-loop-p l = l.k - l.p
+invariant-loop-p l = Wrote l.initial.out 0 (pieces (form_piece l.h (view l.h.n l.h.m l.ws)) l.p) l.at l.out

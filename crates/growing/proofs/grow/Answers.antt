@@ -1,43 +1,28 @@
-use mathlib.Core.Path.{◌∙◌, refl, sym}
+use mathlib.Core.Path.{◌∙◌}
 use native.Mathlib.Omega.{arith}
+use Rattle.broken.specs.Words.{is_broken}
 use Rattle.language.proofs.Sized.{sized}
 use Rattle.language.specs.Struct.{count_kids}
 use Rattle.growing.specs.Grow.{goes_connected, goes_entered, goes_stored, grown_broken, grown_done}
 use Rattle.growing.proofs.grow.Goals as goal
 
-pub returns-in_default : goal.returns-in_default
-returns-in_default c = grown_broken (goes_stored _ _ _ _ refl c.store.ensures) c.in_default.is
+pub returns-in_err-store : goal.returns-in_err-store
+returns-in_err-store c = rw (is_broken _ c.from_residual.ensures.0) (grown_broken (goes_stored _ _ _ _ _ _ _ c.store.ensures) c.in_err-store.was)
 
-pub returns-in_default-enter : goal.returns-in_default-enter
-returns-in_default-enter c = let w = c.wide.ensures.0 in
-    let g1 = goes_stored _ _ _ _ w c.store.ensures in
-    let g2 = goes_entered _ _ _ _ g1 c.enter.ensures in
-    grown_broken g2 c.in_default-enter.is
+pub returns-in_err-enter : goal.returns-in_err-enter
+returns-in_err-enter c =
+    let G = goes_entered _ _ _ _ _ _ _ c.store.ensures _ _ c.enter.ensures in
+    rw (is_broken _ c.from_residual-in_err-enter.ensures.0) (grown_broken G c.in_err-enter.was)
 
-pub connect-requires : goal.connect-requires
-connect-requires c = let w = c.wide.ensures.0 in
-    let e = c.enter.ensures.inside.size ∙ c.store.ensures.inside.size in record { head_ok = rw e (omega (arith, c.requires.head_ok)); count_le_places = (omega arith, omega arith); by_index = λ i l. omega (arith, c.requires.by_index i l) }
-
-pub returns-in_default-connect : goal.returns-in_default-connect
-returns-in_default-connect c = let y = c.args.key in
-    let p = c.requires.ids_lt_n in
-    let w = c.wide.ensures.0 in
-    let g1 = goes_stored _ _ _ _ w c.store.ensures in
-    let g2 = goes_entered _ _ _ _ g1 c.enter.ensures in
-    let e = count_kids y (sized y c.well_formed.1.1.1.0) (omega arith) ∙ p.3 ∙ sym w in
-    let g3 = goes_connected _ _ _ _ g2 e c.connect.ensures in
-    grown_broken g3 c.in_default-connect.is
-
-pub overflow_add-result : goal.overflow_add-result
-overflow_add-result c = omega (arith, c.requires.head_ok)
+pub returns-in_err-connect : goal.returns-in_err-connect
+returns-in_err-connect c =
+    let e = count_kids c.args.key (sized c.args.key c.well_formed.1.1.1.0) (omega arith) ∙ c.requires.ids_lt_n.3 in
+    let G = goes_connected _ _ _ _ _ _ _ c.store.ensures _ _ c.enter.ensures _ _ c.connect.ensures e in
+    rw (is_broken _ c.from_residual-in_err-connect.ensures.0) (grown_broken G c.in_err-connect.was)
 
 pub returns : goal.returns
-returns c = let y = c.args.key in
-    let p = c.requires.ids_lt_n in
-    let w = c.wide.ensures.0 in
-    let g1 = goes_stored _ _ _ _ w c.store.ensures in
-    let g2 = goes_entered _ _ _ _ g1 c.enter.ensures in
-    let e = count_kids y (sized y c.well_formed.1.1.1.0) (omega arith) ∙ p.3 ∙ sym w in
-    let g3 = goes_connected _ _ _ _ g2 e c.connect.ensures in
-    let room = c.connect.ensures.room c.in-ChangeDone-connect.is in
-    grown_done _ _ _ _ g3 (omega (arith, c.requires.head_ok))
+returns c =
+    let e = count_kids c.args.key (sized c.args.key c.well_formed.1.1.1.0) (omega arith) ∙ c.requires.ids_lt_n.3 in
+    let G = goes_connected _ _ _ _ _ _ _ c.store.ensures _ _ c.enter.ensures _ _ c.connect.ensures e in
+    let room = c.connect.ensures.room c.in_ok-connect.was in
+    grown_done _ _ _ _ G (omega (arith, c.requires.head_ok))

@@ -1,32 +1,13 @@
-use mathlib.Core.Path.{◌∙◌}
-use Prim.Native.Nat.{ℕ, ◌<◌}
-use native.Mathlib.Omega.{arith}
-use borrow.Author.Count.{below_more}
+use Rattle.std.proofs.Common.{arith, refl, rules, tests, ◌<◌, ◌≤◌}
+use Rattle.std.proofs.lemmas.Iterator.{YieldsList-from_range, cases_from_all}
 use Rattle.lists.specs.Reads.{at}
-use Rattle.lists.specs.Tests.{says_no, says_yes}
 use Rattle.language.proofs.Sized.{sized}
 use Rattle.language.specs.Struct.{count_kids, node_of}
-use Rattle.growing.specs.Known.{known_less}
+use Rattle.growing.specs.Known.{says_known}
 use Rattle.growing.proofs.known.Goals as goal
-
-pub loop-i-init : goal.loop-i-init
-loop-i-init c = (omega arith, λ j h. absurd (omega arith))
-
-pub returns-then-ids-wide : goal.returns-then-ids-wide
-returns-then-ids-wide c = let x = c.args.node in
-    let f = count_kids x (sized x c.well_formed.0) c.requires in
-    let t = c.loop-i-test.true in
-    let w = c.wide-n.ensures.0 in
-    let e = c.wide.ensures.0 ∙ c.child.ensures in
-    says_no (known_less (node_of x) _ c.loop-i.i (omega arith) (omega (arith, e)))
-
-pub loop-i-preserved : goal.loop-i-preserved
-loop-i-preserved c = let t = c.loop-i-test.true in
-    let e = c.wide.ensures.0 ∙ c.child.ensures in
-    (omega arith, below_more (λ (j : ℕ). at (node_of c.args.node).kids j < c.args.ids) _ c.loop-i.invariant.1 (omega (arith, e)))
 
 pub returns : goal.returns
 returns c = let x = c.args.node in
-    let f = count_kids x (sized x c.well_formed.0) c.requires in
-    let w = c.wide-n.ensures.0 in
-    says_yes (λ i h. c.loop-i.invariant.1 i (omega arith))
+    let run = cases_from_all _ _ _ (λ i. at (node_of x).kids i < c.args.ids) (λ i. c.args.ids ≤ at (node_of x).kids i) c.all.ensures.ran
+    (YieldsList-from_range 0 x.count x.count refl (omega arith)) (λ i q k. search (rules, tests)) (λ i q k. search (rules, tests)) in
+    says_known (node_of x) c.args.ids x.count (count_kids x (sized x c.well_formed.0) c.requires) _ run

@@ -1,12 +1,8 @@
 use mathlib.Core.Path.{◌≡◌}
-use Prim.Native.Nat.{◌≤◌, ◌-◌}
-use lib.ListN.{length, take}
+use mathlib.Core.List.{map}
+use lib.ListN.{take}
 use lib.Seq.{sets}
-use Rattle.language.specs.Struct.{row}
 use Rattle.language.proofs.put_kids.Given as goal
 
 abbrev pub invariant-loop-i : goal.invariant-loop-i
-invariant-loop-i l = (l.i ≤ l.n) × (length l.ws ≡ length l.initial.ws) × (l.ws ≡ sets l.initial.ws l.place (take l.i (row l.node)))
-
-abbrev pub decreases-loop-i : goal.decreases-loop-i
-decreases-loop-i l = l.n - l.i
+invariant-loop-i l = l.ws ≡ sets l.initial.ws l.place (take l.i (map (λ k. k.0) l.k-items))

@@ -1,13 +1,11 @@
 use native.Mathlib.Omega.{arith}
 use Rattle.layout.specs.View.{hd_at}
-use Rattle.layout.specs.Head.{head_told, head_untold}
+use Rattle.layout.specs.Head.{numbers, head_tested, numbers_hd}
 use Rattle.layout.proofs.read_head.Goals as goal
 
-pub returns-then-load-gt1 : goal.returns-then-load-gt1
-returns-then-load-gt1 c = λ g. omega (arith, g.flag, c.load.ensures, hd_at c.args.ws.now 6 (omega arith))
-
-pub returns-then-in_range : goal.returns-then-in_range
-returns-then-in_range c = head_told _ _ _ _ c.read_numbers-h.ensures (omega (arith, c.load.ensures, hd_at c.args.ws.now 6 (omega arith))) c.in_range.ensures c.if-in_range.true
+pub returns-then-clean-gt1 : goal.returns-then-clean-gt1
+returns-then-clean-gt1 c = λ g. omega (arith, g.flag, hd_at c.args.ws.now 6 (omega arith))
 
 pub returns : goal.returns
-returns c = head_untold _ _ _ _ c.read_numbers-h.ensures c.in_range.ensures c.if-in_range.false
+unfolding numbers
+returns c = rw c.then_some.ensures (head_tested _ _ _ _ (numbers_hd c.args.ws.now) (omega (arith, hd_at c.args.ws.now 6 (omega arith))) c.in_range.ensures)

@@ -1,15 +1,19 @@
-use mathlib.Core.Path.{refl}
+use Rattle.std.proofs.Common.{Ok, ap, ◌∙◌}
+use Rattle.broken.specs.Words.{is_broken}
 use Rattle.pricing.specs.Best.{better_unread, better_broken, better_none, better_priced}
 use Rattle.pricing.proofs.better.Goals as goal
 
-pub returns-in_default : goal.returns-in_default
-returns-in_default c = better_unread _ _ _ _ _ c.root_node-got.ensures _ _ refl c.in_default.is
+pub returns-in_err-node : goal.returns-in_err-node
+returns-in_err-node c = rw (is_broken _ c.from_residual.ensures.0) (better_unread _ _ _ _ _ c.root_node.ensures c.in_err-node.was)
 
-pub returns-in-NodeCostBroken : goal.returns-in-NodeCostBroken
-returns-in-NodeCostBroken c = better_broken _ _ _ _ _ c.root_node-got.ensures _ c.node_total_cost.ensures c.in-NodeCostBroken.is
+pub node_total_cost-requires : goal.node_total_cost-requires
+node_total_cost-requires c = record { head_ok = c.requires.head_ok; count_le_places = (c.root_node.ensures.found _ c.in_ok-node.was).1.few }
 
-pub returns-in-NodeCostNone : goal.returns-in-NodeCostNone
-returns-in-NodeCostNone c = better_none _ _ _ _ _ c.root_node-got.ensures _ c.node_total_cost.ensures c.requires.id_lt_n.1 c.in-NodeCostNone.is
+pub returns-in_err-node_total_cost : goal.returns-in_err-node_total_cost
+returns-in_err-node_total_cost c = rw (is_broken _ c.from_residual-in_err-node_total_cost.ensures.0) (better_broken _ _ _ _ _ c.root_node.ensures _ c.in_ok-node.was _ c.node_total_cost.ensures c.in_err-node_total_cost.was)
 
-pub returns-in-NodeCostIs : goal.returns-in-NodeCostIs
-returns-in-NodeCostIs c = better_priced _ _ _ _ _ c.root_node-got.ensures _ c.node_total_cost.ensures _ _ c.requires.id_lt_n.0 c.requires.id_lt_n.1 c.in-NodeCostIs.is c.choose-e.ensures
+pub returns-in-None : goal.returns-in-None
+returns-in-None c = better_none _ _ _ _ _ c.root_node.ensures _ c.in_ok-node.was _ c.node_total_cost.ensures c.requires.id_lt_n.1 (c.in_ok-node_total_cost.was ∙ ap Ok c.in-None.is)
+
+pub returns-in-Some : goal.returns-in-Some
+returns-in-Some c = better_priced _ _ _ _ _ c.root_node.ensures _ c.in_ok-node.was _ c.node_total_cost.ensures _ _ c.requires.id_lt_n.0 c.requires.id_lt_n.1 (c.in_ok-node_total_cost.was ∙ ap Ok c.in-Some.is) c.choose.ensures

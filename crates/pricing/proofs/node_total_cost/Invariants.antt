@@ -1,11 +1,7 @@
-use Prim.Native.Nat.{◌≤◌, ◌-◌}
 use Rattle.language.specs.Struct.{node_of}
 use Rattle.layout.specs.View.{view}
 use Rattle.pricing.specs.Node.{Adding}
 use Rattle.pricing.proofs.node_total_cost.Given as goal
 
 abbrev pub invariant-loop-i : goal.invariant-loop-i
-invariant-loop-i l = (l.i ≤ l.n) × Adding l.h.n l.h.ids (view l.h.n l.h.m l.ws).scratch (node_of l.node) l.i l.sum
-
-abbrev pub decreases-loop-i : goal.decreases-loop-i
-decreases-loop-i l = l.n - l.i
+invariant-loop-i l = Adding l.h.n l.h.ids (view l.h.n l.h.m l.ws).scratch (node_of l.node) l.i l.sum

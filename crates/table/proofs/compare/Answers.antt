@@ -1,13 +1,14 @@
-use mathlib.Core.Path.{sym, ◌∙◌}
-use Rattle.lists.specs.Tests.{zero_one}
-use Rattle.table.specs.Seeking.{compare_broken, compare_same, compare_other}
+use Rattle.broken.specs.Words.{is_broken}
+use Rattle.lists.specs.Tests.{Says}
+use Rattle.language.specs.Struct.{node_of}
+use Rattle.table.specs.Seeking.{compare_broken, compared}
 use Rattle.table.proofs.compare.Goals as goal
 
-pub returns-then-same : goal.returns-then-same
-returns-then-same c = compare_same _ _ _ _ _ (sym c.key-f.ensures.exact ∙ c.same.ensures.holds c.if-same.true)
+pub same-requires : goal.same-requires
+same-requires c = ((c.key.ensures.found _ c.in_ok-key.was).1.few, c.requires.2)
 
-pub returns-in-FetchBroken : goal.returns-in-FetchBroken
-returns-in-FetchBroken c = compare_broken _ _ _ _ _ (λ s. let e = c.key-f.ensures.done s in let f = c.in-FetchBroken.is in zero_one cc)
+pub returns : goal.returns
+returns c = compared _ _ _ _ _ _ (rw (c.key.ensures.found _ c.in_ok-key.was).1.exact at c.same.ensures)
 
-pub returns-else-same : goal.returns-else-same
-returns-else-same c = compare_other _ _ _ _ _ (λ e. c.same.ensures.fails c.if-same.false (c.key-f.ensures.exact ∙ e))
+pub returns-in_err-key : goal.returns-in_err-key
+returns-in_err-key c = rw (is_broken _ c.from_residual.ensures.0) (compare_broken _ _ _ _ _ (c.key.ensures.broken c.in_err-key.was))

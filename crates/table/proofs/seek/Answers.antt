@@ -1,30 +1,35 @@
-use mathlib.Core.Path.{refl}
-use native.Mathlib.Omega.{arith}
+use Rattle.std.proofs.Common.{Ok, ap, ◌≡◌, ◌∙◌, ◌+◌, ◌-◌, ◌<◌, arith, refl}
+use Rattle.broken.specs.Words.{is_broken}
 use Rattle.cells.specs.Cursor.{cursor_start, cursor_step, passed_start, passed_step}
 use Rattle.table.specs.Seeking.{sought_long, sought_end, sought_stray, sought_torn, sought_found}
 use Rattle.table.proofs.seek.Goals as goal
 
-pub returns-then-left-n : goal.returns-then-left-n
-returns-then-left-n c = sought_long _ _ _ _ _ _ c.requires.rows_len.1 (omega (arith, c.len-left.ensures.exact))
+pub returns-then-size-n : goal.returns-then-size-n
+returns-then-size-n c = sought_long _ _ _ _ _ _ c.requires.rows_len.1 (omega (arith, c.len-size.ensures.exact))
 
-pub loop-left-init : goal.loop-left-init
-loop-left-init c = let h = c.requires.rows_len.1 in rw (c.len-left.ensures.exact, c.last-cur.ensures.exact) (cursor_start _ _ _ _ h, passed_start _ _ _ _ h _)
+pub loop-passed-init : goal.loop-passed-init
+loop-passed-init c = let h = c.requires.rows_len.1 in
+    let all : c.len-size.result - 0 ≡ c.len-size.result = omega arith in
+    rw (all, c.len-size.ensures.exact, c.last-cur.ensures.exact) (cursor_start _ _ _ _ h, passed_start _ _ _ _ h _)
 
 pub returns-then-cur-n : goal.returns-then-cur-n
-returns-then-cur-n c = let l = c.loop-left in sought_stray _ _ _ _ _ _ c.requires.rows_len.1 _ _ l.invariant.0 l.invariant.1 c.loop-left-test.true (omega arith)
+returns-then-cur-n c = let l = c.loop-passed in sought_stray _ _ _ _ _ _ c.requires.rows_len.1 _ _ l.invariant.0 l.invariant.1 (omega arith) (omega arith)
 
-pub returns-in-ComparedBroken : goal.returns-in-ComparedBroken
-returns-in-ComparedBroken c = let l = c.loop-left in sought_torn _ _ _ _ _ _ c.requires.rows_len.1 _ _ l.invariant.0 l.invariant.1 c.loop-left-test.true (c.compare-c.ensures.broken c.in-ComparedBroken.is)
+pub returns-in_err-compare : goal.returns-in_err-compare
+returns-in_err-compare c = let l = c.loop-passed in
+    rw (is_broken _ c.from_residual.ensures.0) (sought_torn _ _ _ _ _ _ c.requires.rows_len.1 _ _ l.invariant.0 l.invariant.1 (omega arith) (c.compare.ensures.broken c.in_err-compare.was))
 
-pub returns-in-ComparedSame : goal.returns-in-ComparedSame
-returns-in-ComparedSame c = let l = c.loop-left in sought_found _ _ _ _ _ _ c.requires.rows_len.1 _ _ l.invariant.0 l.invariant.1 c.loop-left-test.true _ refl (omega arith) (c.compare-c.ensures.same c.in-ComparedSame.is)
+pub returns-then-branch : goal.returns-then-branch
+returns-then-branch c = let l = c.loop-passed in
+    sought_found _ _ _ _ _ _ c.requires.rows_len.1 _ _ l.invariant.0 l.invariant.1 (omega arith) _ refl (omega arith) (c.compare.ensures.same (c.in_ok-compare.was ∙ ap Ok c.if-branch.true))
 
-pub loop-left-preserved : goal.loop-left-preserved
-loop-left-preserved c = let l = c.loop-left in
+pub loop-passed-preserved : goal.loop-passed-preserved
+loop-passed-preserved c = let l = c.loop-passed in
     let h = c.requires.rows_len.1 in
-    let s = c.loop-left-test.true in
-    rw c.link-cur.ensures.exact
-    (cursor_step _ _ _ _ h _ _ l.invariant.0 s, passed_step _ _ _ _ h _ _ l.invariant.0 s _ l.invariant.1 (c.compare-c.ensures.other c.in-ComparedOther.is))
+    let left : c.len-size.result - (l.passed + 1) ≡ c.len-size.result - l.passed - 1 = omega arith in
+    let some : 0 < c.len-size.result - l.passed = omega arith in
+    rw (left, c.link-cur.ensures.exact)
+    (cursor_step _ _ _ _ h _ _ l.invariant.0 some, passed_step _ _ _ _ h _ _ l.invariant.0 some _ l.invariant.1 (c.compare.ensures.other (c.in_ok-compare.was ∙ ap Ok c.if-branch.false)))
 
 pub returns : goal.returns
-returns c = let l = c.loop-left in sought_end _ _ _ _ _ _ c.requires.rows_len.1 _ _ l.invariant.0 l.invariant.1 c.loop-left-test.false
+returns c = let l = c.loop-passed in sought_end _ _ _ _ _ _ c.requires.rows_len.1 _ _ l.invariant.0 l.invariant.1 (omega arith)

@@ -1,11 +1,7 @@
-use Prim.Native.Nat.{◌-◌, ◌≤◌}
 use mathlib.Core.Path.{◌≡◌}
 use lib.ListN.{length}
 use Rattle.tidying.specs.Refill.{RefilledTo}
 use Rattle.tidying.proofs.refill.Given as goal
 
 abbrev pub invariant-loop-i : goal.invariant-loop-i
-invariant-loop-i l = (l.i ≤ l.d) × (length l.ws ≡ length l.initial.ws) × RefilledTo l.h.n l.h.m l.list.0 l.d l.i l.initial.ws l.ws
-
-abbrev pub decreases-loop-i : goal.decreases-loop-i
-decreases-loop-i l = l.d - l.i
+invariant-loop-i l = (length l.ws ≡ length l.initial.ws) × RefilledTo l.h.n l.h.m l.list.0 l.d l.i l.initial.ws l.ws

@@ -1,5 +1,7 @@
-use Rattle.unionfind.specs.Promise.{makes_set}
+use mathlib.Core.Path.{refl}
+use native.Mathlib.Omega.{arith}
+use Rattle.unionfind.specs.Changes.{new_forest}
 use Rattle.unionfind.proofs.make_set.Goals as goal
 
 pub returns : goal.returns
-returns c = search makes_set
+returns c = record { exact = refl; law = λ C R F. new_forest F (omega arith) }

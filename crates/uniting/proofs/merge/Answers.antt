@@ -1,18 +1,19 @@
+use Rattle.broken.specs.Words.{is_broken}
 use Rattle.uniting.specs.Merging.{merge_done, merge_full, merge_members, merge_none, merge_uses}
 use native.Mathlib.Omega.{arith}
 use Rattle.uniting.proofs.merge.Goals as goal
 
-pub returns-then-n-depth : goal.returns-then-n-depth
-returns-then-n-depth c = merge_full _ _ _ _ c.requires.head_ok c.requires.stay_lt_ids c.if-n-depth.true
+pub returns-then-h : goal.returns-then-h
+returns-then-h c = merge_full _ _ _ _ c.requires.head_ok c.requires.stay_lt_ids (omega arith)
 
-pub returns-then-classes-eq0 : goal.returns-then-classes-eq0
-returns-then-classes-eq0 c = merge_none _ _ _ _ c.requires.head_ok c.requires.stay_lt_ids c.if-classes-eq0.true
+pub returns-then-h-eq0 : goal.returns-then-h-eq0
+returns-then-h-eq0 c = merge_none _ _ _ _ c.requires.head_ok c.requires.stay_lt_ids (omega arith)
 
-pub returns-in-ChangeBroken : goal.returns-in-ChangeBroken
-returns-in-ChangeBroken c = merge_uses _ _ _ _ c.requires.head_ok c.requires.stay_lt_ids _ _ c.join.ensures c.in-ChangeBroken.is
+pub returns-in_err-join : goal.returns-in_err-join
+returns-in_err-join c = rw (is_broken _ c.from_residual.ensures.0) (merge_uses _ _ _ _ c.requires.head_ok c.requires.stay_lt_ids _ _ c.join.ensures c.in_err-join.was)
 
-pub returns-in-ChangeBroken-join : goal.returns-in-ChangeBroken-join
-returns-in-ChangeBroken-join c = merge_members _ _ _ _ c.requires.head_ok c.requires.stay_lt_ids _ _ c.join.ensures _ _ _ _ _ _ c.push_stretch-d.ensures c.join-in-ChangeDone.ensures c.in-ChangeBroken-join.is
+pub returns-in_err-join-2 : goal.returns-in_err-join-2
+returns-in_err-join-2 c = rw (is_broken _ c.from_residual-in_err-join-2.ensures.0) (merge_members _ _ _ _ c.requires.head_ok c.requires.stay_lt_ids _ _ c.join.ensures _ _ _ _ _ _ c.push_stretch-depth.ensures c.join-2.ensures c.in_err-join-2.was)
 
-pub returns-in-ChangeDone-join : goal.returns-in-ChangeDone-join
-returns-in-ChangeDone-join c = merge_done _ _ _ _ c.requires.head_ok c.requires.stay_lt_ids _ _ c.join.ensures _ _ _ _ _ _ c.push_stretch-d.ensures c.join-in-ChangeDone.ensures _ (omega (arith, c.if-n-depth.false)) c.last-last.ensures c.len-count.ensures c.union.ensures
+pub returns : goal.returns
+returns c = merge_done _ _ _ _ c.requires.head_ok c.requires.stay_lt_ids _ _ c.join.ensures _ _ _ _ _ _ c.push_stretch-depth.ensures c.join-2.ensures _ (omega arith) c.last-last.ensures c.len-count.ensures c.union.ensures

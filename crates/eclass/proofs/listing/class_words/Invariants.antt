@@ -1,11 +1,9 @@
 use Prim.Native.Nat.{◌*◌, ◌+◌, ◌≤◌}
+use lib.ListN.{length}
 use Rattle.layout.specs.View.{view}
-use Rattle.eclass.specs.ClassWalk.{WalkFrom}
+use Rattle.eclass.specs.ClassWalk.{Walk, len_of}
 use Rattle.eclass.specs.Lists.{Measuring}
 use Rattle.eclass.proofs.listing.class_words.Given as goal
 
-abbrev pub invariant-loop-left : goal.invariant-loop-left
-invariant-loop-left l = (l.total + 11 * l.left ≤ 11 * l.initial.left) × WalkFrom (view l.h.n l.h.m l.ws).members l.h.n l.initial.left l.initial.id.0 l.left l.id.0 (Measuring (view l.h.n l.h.m l.ws).rows l.h.n l.h.m l.total)
-
-abbrev pub decreases-loop-left : goal.decreases-loop-left
-decreases-loop-left l = l.left
+abbrev pub invariant-loop-id : goal.invariant-loop-id
+invariant-loop-id l = (l.total + 11 * length l.id-iterator ≤ 11 * len_of (view l.h.n l.h.m l.ws).members l.h.n l.fn.r.0) × Walk (view l.h.n l.h.m l.ws).members l.h.n l.fn.r.0 l.id-iterator (Measuring (view l.h.n l.h.m l.ws).rows l.h.n l.h.m l.total)

@@ -1,10 +1,7 @@
 use Rattle.layout.specs.View.{view}
-use Rattle.eclass.specs.ClassWalk.{WalkFrom}
+use Rattle.eclass.specs.ClassWalk.{Walk}
 use Rattle.eclass.specs.Ops.{NoneHas}
 use Rattle.eclass.proofs.ops.has_op.Given as goal
 
-abbrev pub invariant-loop-left : goal.invariant-loop-left
-invariant-loop-left l = WalkFrom (view l.h.n l.h.m l.ws).members l.h.n l.initial.left l.initial.id.0 l.left l.id.0 (NoneHas (view l.h.n l.h.m l.ws).rows l.h.n l.h.m l.op.0)
-
-abbrev pub decreases-loop-left : goal.decreases-loop-left
-decreases-loop-left l = l.left
+abbrev pub invariant-loop-id : goal.invariant-loop-id
+invariant-loop-id l = Walk (view l.h.n l.h.m l.ws).members l.h.n l.fn.r.0 l.id-iterator (NoneHas (view l.h.n l.h.m l.ws).rows l.h.n l.h.m l.op.0)

@@ -1,8 +1,5 @@
-use Rattle.eclass.specs.Ops.{op_other, op_same}
+use Rattle.eclass.specs.Ops.{op_read}
 use Rattle.eclass.proofs.ops.op_is.Goals as goal
 
-pub returns-then-node-op : goal.returns-then-node-op
-returns-then-node-op c = op_same _ _ _ _ _ _ c.key-f.ensures c.if-node-op.true
-
 pub returns : goal.returns
-returns c = op_other _ _ _ _ _ _ c.key-f.ensures c.if-node-op.false
+returns c = op_read _ _ _ _ _ _ c.key_or_leaf-node.ensures

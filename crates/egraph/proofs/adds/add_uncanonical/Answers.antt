@@ -1,11 +1,12 @@
-use Rattle.egraph.specs.Adds.{adding_no, adding_on, gate_head}
+use Rattle.broken.specs.Words.{error_is}
+use Rattle.egraph.specs.Adds.{gate_head, adding_no, adding_on}
 use Rattle.egraph.proofs.adds.add_uncanonical.Goals as goal
 
+pub returns-in_err-h : goal.returns-in_err-h
+returns-in_err-h c = rw (error_is _ _ c.from_residual.ensures.1) (adding_no _ _ _ _ c.enter.ensures _ c.in_err-h.was)
+
 pub uncanonical_open-requires : goal.uncanonical_open-requires
-uncanonical_open-requires c = let g = gate_head _ _ _ c.enter.ensures _ c.in-GateTo.is in record { head_is = g.0; count_le_places = (g.1, g.2) }
+uncanonical_open-requires c = let g = gate_head _ _ _ c.enter.ensures _ c.in_ok-h.was in record { head_is = g.0; count_le_places = (g.1, g.2) }
 
-pub returns-in-GateNot : goal.returns-in-GateNot
-returns-in-GateNot c = adding_no _ _ _ _ c.enter.ensures _ c.in-GateNot.is
-
-pub returns-in-GateTo : goal.returns-in-GateTo
-returns-in-GateTo c = adding_on _ _ _ _ c.enter.ensures _ c.in-GateTo.is _ _ c.uncanonical_open.ensures
+pub returns : goal.returns
+returns c = adding_on _ _ _ _ c.enter.ensures _ c.in_ok-h.was _ _ c.uncanonical_open.ensures

@@ -1,15 +1,15 @@
-use Rattle.layout.specs.Head.{head_is}
+use Rattle.egraph.specs.Answers.{handed_on, not_set, set_then}
 use Rattle.egraph.specs.ClassLists.{list_opened, list_shut, list_unclean}
 use Rattle.egraph.proofs.class_lists.classes.Goals as goal
 
+pub returns-in_err-h : goal.returns-in_err-h
+returns-in_err-h c = rw (handed_on _ _ c.read_head.ensures _ c.in_err-h.was _ c.from_residual.ensures.1) (list_shut _ _ _ _ _ c.read_head.ensures _ c.in_err-h.was)
+
+pub returns-then-not-h : goal.returns-then-not-h
+returns-then-not-h c = list_unclean _ _ _ _ _ c.read_head.ensures _ c.in_ok-h.was (not_set _ c.if-not-h.true)
+
 pub classes_open-requires : goal.classes_open-requires
-classes_open-requires c = record { head_is = head_is _ _ _ _ c.read_head.ensures c.in-HeadGood.is; clean_value = c.if-h.true }
+classes_open-requires c = record { head_is = c.read_head.ensures.good _ c.in_ok-h.was; clean_value = set_then _ c.if-not-h.false }
 
-pub returns-then-h : goal.returns-then-h
-returns-then-h c = list_opened _ _ _ _ _ c.read_head.ensures _ c.in-HeadGood.is c.if-h.true _ _ c.classes_open.ensures
-
-pub returns-in-HeadBad : goal.returns-in-HeadBad
-returns-in-HeadBad c = list_shut _ _ _ _ _ c.read_head.ensures c.in-HeadBad.is
-
-pub returns-else-h : goal.returns-else-h
-returns-else-h c = list_unclean _ _ _ _ _ c.read_head.ensures _ c.in-HeadGood.is c.if-h.false
+pub returns : goal.returns
+returns c = list_opened _ _ _ _ _ c.read_head.ensures _ c.in_ok-h.was (set_then _ c.if-not-h.false) _ _ c.classes_open.ensures

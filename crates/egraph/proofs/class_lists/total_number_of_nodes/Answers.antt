@@ -1,16 +1,15 @@
 use mathlib.Core.Path.{refl}
-use Rattle.layout.specs.Head.{head_is}
-use Rattle.egraph.specs.Answers.{cleaned, opened, shut, unclean}
+use Rattle.egraph.specs.Answers.{shut, opened, handed_on, not_set, set_then, cleaned, unclean}
 use Rattle.egraph.proofs.class_lists.total_number_of_nodes.Goals as goal
 
+pub returns-in_err-h : goal.returns-in_err-h
+returns-in_err-h c = rw (handed_on _ _ c.read_head.ensures _ c.in_err-h.was _ c.from_residual.ensures.1) (shut _ _ c.read_head.ensures _ c.in_err-h.was refl)
+
+pub returns-then-not-h : goal.returns-then-not-h
+returns-then-not-h c = opened _ _ c.read_head.ensures _ c.in_ok-h.was (λ p. unclean _ _ p (not_set _ c.if-not-h.true) refl)
+
 pub total_open-requires : goal.total_open-requires
-total_open-requires c = record { head_is = head_is _ _ _ _ c.read_head.ensures c.in-HeadGood.is; clean_value = c.if-h.true }
+total_open-requires c = record { head_is = c.read_head.ensures.good _ c.in_ok-h.was; clean_value = set_then _ c.if-not-h.false }
 
-pub returns-then-h : goal.returns-then-h
-returns-then-h c = opened _ _ c.read_head.ensures _ c.in-HeadGood.is (λ p. cleaned _ _ p c.if-h.true c.total_open.ensures)
-
-pub returns-in-HeadBad : goal.returns-in-HeadBad
-returns-in-HeadBad c = shut _ _ c.read_head.ensures c.in-HeadBad.is refl
-
-pub returns-else-h : goal.returns-else-h
-returns-else-h c = opened _ _ c.read_head.ensures _ c.in-HeadGood.is (λ p. unclean _ _ p c.if-h.false refl)
+pub returns : goal.returns
+returns c = opened _ _ c.read_head.ensures _ c.in_ok-h.was (λ p. cleaned _ _ p (set_then _ c.if-not-h.false) c.total_open.ensures)

@@ -8,7 +8,4 @@ use Rattle.egraph.specs.Stored.{stored}
 use Rattle.egraph.proofs.listing.measure.Given as goal
 
 abbrev pub invariant-loop-i : goal.invariant-loop-i
-invariant-loop-i l = (l.i ≤ l.ids) × (l.total ≡ length (spell (stored (view l.h.n l.h.m l.ws).rows l.h.n l.h.m l.i))) × (l.total ≤ 11 * l.i) × ((j : ℕ) → j < l.i → Sane (view l.h.n l.h.m l.ws).rows l.h.n l.h.m j)
-
-abbrev pub decreases-loop-i : goal.decreases-loop-i
-decreases-loop-i l = l.ids - l.i
+invariant-loop-i l = (l.total ≡ length (spell (stored (view l.h.n l.h.m l.ws).rows l.h.n l.h.m l.i))) × (l.total ≤ 11 * l.i) × ((j : ℕ) → j < l.i → Sane (view l.h.n l.h.m l.ws).rows l.h.n l.h.m j)

@@ -1,14 +1,13 @@
-use mathlib.Core.Path.{refl, sym}
-use Rattle.egraph.specs.declared.Refusal.TheVariants.{BadHead}
-use Rattle.layout.specs.Head.{head_is}
-use Rattle.egraph.specs.Answers.{shut, opened, words≢not}
+use mathlib.Core.Path.{refl}
+use Rattle.lists.specs.Tests.{zero_one}
+use Rattle.egraph.specs.Answers.{shut, opened, handed_on}
 use Rattle.egraph.proofs.listing.nodes.Goals as goal
 
+pub returns-in_err-h : goal.returns-in_err-h
+returns-in_err-h c = rw (handed_on _ _ c.read_head.ensures _ c.in_err-h.was _ c.from_residual.ensures.1) (record { inside = λ k e. zero_one cc; says = shut _ _ c.read_head.ensures _ c.in_err-h.was (refl, refl) })
+
 pub nodes_open-requires : goal.nodes_open-requires
-nodes_open-requires c = head_is _ _ _ _ c.read_head.ensures c.in-HeadGood.is
+nodes_open-requires c = c.read_head.ensures.good _ c.in_ok-h.was
 
-pub returns-in-HeadBad : goal.returns-in-HeadBad
-returns-in-HeadBad c = record { inside = λ k s. absurd (words≢not k BadHead (sym s)); says = shut _ _ c.read_head.ensures c.in-HeadBad.is (refl, refl) }
-
-pub returns-in-HeadGood : goal.returns-in-HeadGood
-returns-in-HeadGood c = record { inside = c.nodes_open.ensures.inside; says = opened _ _ c.read_head.ensures _ c.in-HeadGood.is (λ _. c.nodes_open.ensures) }
+pub returns : goal.returns
+returns c = record { inside = c.nodes_open.ensures.inside; says = opened _ _ c.read_head.ensures _ c.in_ok-h.was (λ _. c.nodes_open.ensures) }

@@ -5,7 +5,4 @@ use Rattle.egraph.specs.Stored.{stored}
 use Rattle.egraph.proofs.listing.put_nodes.Given as goal
 
 abbrev pub invariant-loop-i : goal.invariant-loop-i
-invariant-loop-i l = (l.i ≤ l.ids) × Listed l.initial.out (stored (view l.h.n l.h.m l.ws).rows l.h.n l.h.m l.i) l.at l.out
-
-abbrev pub decreases-loop-i : goal.decreases-loop-i
-decreases-loop-i l = l.ids - l.i
+invariant-loop-i l = Listed l.initial.out (stored (view l.h.n l.h.m l.ws).rows l.h.n l.h.m l.i) l.at l.out

@@ -1,13 +1,10 @@
 use mathlib.Core.Path.{refl}
-use Rattle.egraph.specs.Answers.{shut, opened}
-use Rattle.egraph.specs.Reads.{empty_open, empty_yes, empty_no}
+use Rattle.egraph.specs.Answers.{shut, opened, handed_on}
+use Rattle.egraph.specs.Reads.{empty_open}
 use Rattle.egraph.proofs.reads.is_empty.Goals as goal
 
-pub returns-then-h-eq0 : goal.returns-then-h-eq0
-returns-then-h-eq0 c = opened _ _ c.read_head.ensures _ c.in-HeadGood.is (λ p. empty_open _ _ p _ (empty_yes _ c.if-h-eq0.true))
+pub returns-in_err-h : goal.returns-in_err-h
+returns-in_err-h c = rw (handed_on _ _ c.read_head.ensures _ c.in_err-h.was _ c.from_residual.ensures.1) (shut _ _ c.read_head.ensures _ c.in_err-h.was refl)
 
-pub returns-in-HeadBad : goal.returns-in-HeadBad
-returns-in-HeadBad c = shut _ _ c.read_head.ensures c.in-HeadBad.is refl
-
-pub returns-else-h-eq0 : goal.returns-else-h-eq0
-returns-else-h-eq0 c = opened _ _ c.read_head.ensures _ c.in-HeadGood.is (λ p. empty_open _ _ p _ (empty_no _ c.if-h-eq0.false))
+pub returns : goal.returns
+returns c = opened _ _ c.read_head.ensures _ c.in_ok-h.was (λ p. empty_open _ _ p)

@@ -1,10 +1,10 @@
 use mathlib.Core.Path.{refl}
-use Rattle.egraph.specs.Answers.{shut, opened}
+use Rattle.egraph.specs.Answers.{shut, opened, handed_on}
 use Rattle.egraph.specs.Reads.{count_open}
 use Rattle.egraph.proofs.reads.number_of_classes.Goals as goal
 
-pub returns-in-HeadBad : goal.returns-in-HeadBad
-returns-in-HeadBad c = shut _ _ c.read_head.ensures c.in-HeadBad.is refl
+pub returns-in_err-h : goal.returns-in_err-h
+returns-in_err-h c = rw (handed_on _ _ c.read_head.ensures _ c.in_err-h.was _ c.from_residual.ensures.1) (shut _ _ c.read_head.ensures _ c.in_err-h.was refl)
 
-pub returns-in-HeadGood : goal.returns-in-HeadGood
-returns-in-HeadGood c = opened _ _ c.read_head.ensures _ c.in-HeadGood.is (λ p. count_open _ _ p)
+pub returns : goal.returns
+returns c = opened _ _ c.read_head.ensures _ c.in_ok-h.was (λ p. count_open _ _ p)

@@ -1,13 +1,12 @@
 use mathlib.Core.Path.{refl}
-use Rattle.layout.specs.Head.{head_is}
-use Rattle.egraph.specs.Answers.{opened, shut}
+use Rattle.egraph.specs.Answers.{shut, opened, handed_on}
 use Rattle.egraph.proofs.rebuilds.rebuild.Goals as goal
 
+pub returns-in_err-h : goal.returns-in_err-h
+returns-in_err-h c = rw (handed_on _ _ c.read_head.ensures _ c.in_err-h.was _ c.from_residual.ensures.1) (shut _ _ c.read_head.ensures _ c.in_err-h.was (refl, refl))
+
 pub rebuild_open-requires : goal.rebuild_open-requires
-rebuild_open-requires c = head_is _ _ _ _ c.read_head.ensures c.in-HeadGood.is
+rebuild_open-requires c = c.read_head.ensures.good _ c.in_ok-h.was
 
-pub returns-in-HeadBad : goal.returns-in-HeadBad
-returns-in-HeadBad c = shut _ _ c.read_head.ensures c.in-HeadBad.is (refl, refl)
-
-pub returns-in-HeadGood : goal.returns-in-HeadGood
-returns-in-HeadGood c = opened _ _ c.read_head.ensures _ c.in-HeadGood.is (λ p. c.rebuild_open.ensures)
+pub returns : goal.returns
+returns c = opened _ _ c.read_head.ensures _ c.in_ok-h.was (λ p. c.rebuild_open.ensures)

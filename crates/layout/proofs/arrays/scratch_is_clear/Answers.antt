@@ -1,9 +1,18 @@
 use native.Mathlib.Omega.{arith}
-use Rattle.layout.specs.View.{view}
-use Rattle.layout.proofs.Sizes.{part_size}
-use Rattle.layout.specs.Cut.{scratch}
+use borrow.Author.Rules.{rules}
+use borrow.Author.Tests.{tests}
+use Rattle.std.proofs.Common.{◌≡◌, ◌≢◌, ◌*◌, length}
+use Rattle.std.proofs.lemmas.Iterator.{YieldsList-from_slice, cases_from_all}
+use Rattle.lists.specs.Parts.{part}
+use Rattle.layout.proofs.Lent.{seen_range}
+use Rattle.layout.proofs.Zero.{all_zero}
 use Rattle.layout.proofs.arrays.scratch_is_clear.Goals as goal
 
 pub returns : goal.returns
-unfolding view
-returns c = rw (part_size scratch c.args.h.n c.args.h.m c.args.ws.now (omega arith)) at c.is_zero.ensures
+returns c =
+    let l = part c.args.ws.now c.scratch.result.start c.scratch.result.end in
+    let size : length l ≡ 6 * c.args.h.n = grind arith in
+    rw (seen_range c.args.ws.now c.scratch.ensures, ← size)
+    (all_zero _ l
+    (cases_from_all _ _ _ (λ x. x ≡ 0) (λ x. x ≢ 0) c.all.ensures.ran (YieldsList-from_slice l cc)
+    (λ x q k. search (rules, tests)) (λ x q k. search (rules, tests))))

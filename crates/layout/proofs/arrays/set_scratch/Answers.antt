@@ -1,8 +1,5 @@
-use native.Mathlib.Omega.{arith}
-use Rattle.layout.proofs.Lent.{lent_part}
-use Rattle.layout.specs.Cut.{scratch}
-use borrow.Author.Rules.{rules}
+use Rattle.layout.proofs.Lent.{lent_range}
 use Rattle.layout.proofs.arrays.set_scratch.Goals as goal
 
 pub returns : goal.returns
-returns c = lent_part _ _ _ c.store.new.ws (omega arith) scratch _ (search rules) c.store.ensures
+returns c = lent_range _ _ c.scratch.ensures c.requires.fits.lent c.store.auto.ws c.store.ensures

@@ -1,6 +1,5 @@
-use Rattle.layout.specs.View.{view}
+use Rattle.layout.proofs.Lent.{seen_range}
 use Rattle.layout.proofs.arrays.work.Goals as goal
 
 pub returns : goal.returns
-unfolding view
-returns c = c.load.ensures
+returns c = rw (seen_range _ c.sorting.ensures) c.load.ensures

@@ -1,10 +1,13 @@
 use native.Mathlib.Omega.{arith}
-use Rattle.layout.specs.View.{view}
+use Rattle.broken.specs.Words.{is_broken}
+use Rattle.layout.proofs.Lent.{seen_range}
 use Rattle.parts.proofs.on_forest.find.Goals as goal
 
-pub wrapped-requires : goal.wrapped-requires
-wrapped-requires c = λ x e. let low = c.find.ensures.inside x e in omega arith
+pub overflow_cast-result : goal.overflow_cast-result
+overflow_cast-result c = let low = c.find.ensures.inside _ c.in_ok-root.was in omega arith
+
+pub returns-in_err-root : goal.returns-in_err-root
+returns-in_err-root c = rw (is_broken _ c.from_residual.ensures.0, seen_range _ c.forest.ensures) (rw c.in_err-root.was at c.find.ensures)
 
 pub returns : goal.returns
-unfolding view
-returns c = rw c.wrapped.ensures c.find.ensures
+returns c = rw (seen_range _ c.forest.ensures) (rw c.in_ok-root.was at c.find.ensures)

@@ -1,11 +1,14 @@
 use native.Mathlib.Omega.{arith}
-use Rattle.layout.specs.Cut.{forest}
-use Rattle.layout.proofs.Lent.{lent_part}
-use borrow.Author.Rules.{rules}
+use Rattle.broken.specs.Words.{is_broken}
+use Rattle.layout.proofs.Lent.{lent_range}
 use Rattle.parts.proofs.on_forest.find_mut.Goals as goal
 
-pub wrapped-requires : goal.wrapped-requires
-wrapped-requires c = λ x e. let low = c.find_mut-found.ensures.inside x e in omega arith
+pub overflow_cast-result : goal.overflow_cast-result
+overflow_cast-result c = let low = c.find_mut.ensures.inside _ c.in_ok-root.was in omega arith
+
+pub returns-in_err-root : goal.returns-in_err-root
+returns-in_err-root c =
+    rw (is_broken _ c.from_residual.ensures.0) (lent_range _ _ c.forest.ensures c.requires.fits.lent c.find_mut.auto.ps (rw c.in_err-root.was at c.find_mut.ensures))
 
 pub returns : goal.returns
-returns c = rw c.wrapped.ensures (lent_part _ _ _ c.find_mut-found.new.ps (omega arith) forest _ (search rules) c.find_mut-found.ensures)
+returns c = lent_range _ _ c.forest.ensures c.requires.fits.lent c.find_mut.auto.ps (rw c.in_ok-root.was at c.find_mut.ensures)

@@ -1,8 +1,5 @@
-use native.Mathlib.Omega.{arith}
-use Rattle.layout.specs.Cut.{forest}
-use Rattle.layout.proofs.Lent.{lent_part}
-use borrow.Author.Rules.{rules}
+use Rattle.layout.proofs.Lent.{lent_range}
 use Rattle.parts.proofs.on_forest.make_set.Goals as goal
 
 pub returns : goal.returns
-returns c = lent_part _ _ _ c.make_set.new.ps (omega arith) forest _ (search rules) c.make_set.ensures
+returns c = lent_range _ _ c.forest.ensures c.requires.fits.lent c.make_set.auto.ps c.make_set.ensures

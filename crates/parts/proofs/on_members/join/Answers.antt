@@ -1,8 +1,5 @@
-use native.Mathlib.Omega.{arith}
-use Rattle.layout.specs.Cut.{members}
-use Rattle.layout.proofs.Lent.{lent_part}
-use borrow.Author.Rules.{rules}
+use Rattle.layout.proofs.Lent.{lent_range}
 use Rattle.parts.proofs.on_members.join.Goals as goal
 
 pub returns : goal.returns
-returns c = lent_part _ _ _ c.join.new.ws (omega arith) members _ (search rules) c.join.ensures
+returns c = lent_range _ _ c.members.ensures c.requires.fits.lent c.join.auto.ws c.join.ensures

@@ -1,6 +1,5 @@
-use Rattle.layout.specs.View.{view}
+use Rattle.layout.proofs.Lent.{seen_range}
 use Rattle.parts.proofs.on_members.last.Goals as goal
 
 pub returns : goal.returns
-unfolding view
-returns c = c.last-last.ensures
+returns c = rw (seen_range _ c.members.ensures) c.last-last.ensures

@@ -1,8 +1,5 @@
-use native.Mathlib.Omega.{arith}
-use Rattle.layout.specs.Cut.{members}
-use Rattle.layout.proofs.Lent.{lent_part}
-use borrow.Author.Rules.{rules}
+use Rattle.layout.proofs.Lent.{lent_range}
 use Rattle.parts.proofs.on_members.push.Goals as goal
 
 pub returns : goal.returns
-returns c = lent_part _ _ _ c.push.new.ws (omega arith) members _ (search rules) c.push.ensures
+returns c = lent_range _ _ c.members.ensures c.requires.fits.lent c.push.auto.ws c.push.ensures

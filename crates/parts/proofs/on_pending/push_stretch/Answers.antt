@@ -1,8 +1,5 @@
-use native.Mathlib.Omega.{arith}
-use Rattle.layout.specs.Cut.{pending}
-use Rattle.layout.proofs.Lent.{lent_part}
-use borrow.Author.Rules.{rules}
+use Rattle.layout.proofs.Lent.{lent_range}
 use Rattle.parts.proofs.on_pending.push_stretch.Goals as goal
 
 pub returns : goal.returns
-returns c = lent_part _ _ _ c.push_stretch.new.ps (omega arith) pending _ (search rules) c.push_stretch.ensures
+returns c = lent_range _ _ c.pending.ensures c.requires.fits.lent c.push_stretch.auto.ps c.push_stretch.ensures

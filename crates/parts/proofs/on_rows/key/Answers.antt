@@ -1,6 +1,5 @@
-use Rattle.layout.specs.View.{view}
+use Rattle.layout.proofs.Lent.{seen_range}
 use Rattle.parts.proofs.on_rows.key.Goals as goal
 
 pub returns : goal.returns
-unfolding view
-returns c = c.key.ensures
+returns c = rw (seen_range _ c.rows.ensures) c.key.ensures

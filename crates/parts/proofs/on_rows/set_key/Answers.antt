@@ -1,8 +1,5 @@
-use native.Mathlib.Omega.{arith}
-use Rattle.layout.specs.Cut.{rows}
-use Rattle.layout.proofs.Lent.{lent_part}
-use borrow.Author.Rules.{rules}
+use Rattle.layout.proofs.Lent.{lent_range}
 use Rattle.parts.proofs.on_rows.set_key.Goals as goal
 
 pub returns : goal.returns
-returns c = lent_part _ _ _ c.set_key.new.ws (omega arith) rows _ (search rules) c.set_key.ensures
+returns c = lent_range _ _ c.rows.ensures c.requires.fits.lent c.set_key.auto.ws c.set_key.ensures

@@ -1,8 +1,5 @@
-use native.Mathlib.Omega.{arith}
-use Rattle.layout.specs.Cut.{table}
-use Rattle.layout.proofs.Lent.{lent_part}
-use borrow.Author.Rules.{rules}
+use Rattle.layout.proofs.Lent.{lent_range}
 use Rattle.parts.proofs.on_table.enter.Goals as goal
 
 pub returns : goal.returns
-returns c = lent_part _ _ _ c.enter.new.ts (omega arith) table _ (search rules) c.enter.ensures
+returns c = lent_range _ _ c.table.ensures c.requires.fits.lent c.enter.auto.ts c.enter.ensures

@@ -1,8 +1,5 @@
-use native.Mathlib.Omega.{arith}
-use Rattle.layout.specs.Cut.{uses}
-use Rattle.layout.proofs.Lent.{lent_part}
-use borrow.Author.Rules.{rules}
+use Rattle.layout.proofs.Lent.{lent_range}
 use Rattle.parts.proofs.on_uses.clear.Goals as goal
 
 pub returns : goal.returns
-returns c = lent_part _ _ _ c.clear.new.ws (omega arith) uses _ (search rules) c.clear.ensures
+returns c = lent_range _ _ c.uses.ensures c.requires.lent c.clear.auto.ws c.clear.ensures

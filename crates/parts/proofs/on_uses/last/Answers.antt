@@ -1,6 +1,5 @@
-use Rattle.layout.specs.View.{view}
+use Rattle.layout.proofs.Lent.{seen_range}
 use Rattle.parts.proofs.on_uses.last.Goals as goal
 
 pub returns : goal.returns
-unfolding view
-returns c = c.last.ensures
+returns c = rw (seen_range _ c.uses.ensures) c.last.ensures

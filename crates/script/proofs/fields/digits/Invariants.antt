@@ -1,11 +1,6 @@
-use mathlib.Core.Path.{◌≡◌}
-use Prim.Native.Nat.{◌<◌, ◌^◌}
-use lib.ListN.{length}
+use Rattle.std.proofs.Common.{◌≡◌, ◌<◌, ◌^◌, drop}
 use Rattle.script.specs.Decimal.{digits_of, small}
 use Rattle.script.proofs.fields.digits.Given as goal
 
-abbrev pub invariant-loop-t : goal.invariant-loop-t
-invariant-loop-t l = (l.acc < 2 ^ 32) × (small (digits_of 0 l.s) ≡ small (digits_of l.acc l.t))
-
-abbrev pub decreases-loop-t : goal.decreases-loop-t
-decreases-loop-t l = length l.t
+abbrev pub invariant-loop-b : goal.invariant-loop-b
+invariant-loop-b l = record { fits : l.acc < 2 ^ 32; rest : small (digits_of 0 l.s) ≡ small (digits_of l.acc (drop l.b-index l.s)) }

@@ -1,10 +1,6 @@
-use Prim.Native.Nat.{◌-◌, ◌≤◌}
 use mathlib.Core.Path.{◌≡◌}
 use Rattle.spelling.specs.Given.{Filled}
 use Rattle.spelling.proofs.given.filled.Given as goal
 
-abbrev pub invariant-loop-i : goal.invariant-loop-i
-invariant-loop-i l = (l.i ≤ l.n) × (l.node.count ≡ l.i) × Filled l.op l.payload l.kids l.i l.node
-
-abbrev pub decreases-loop-i : goal.decreases-loop-i
-decreases-loop-i l = l.n - l.i
+abbrev pub invariant-loop-kid : goal.invariant-loop-kid
+invariant-loop-kid l = (l.node.count ≡ l.kid-index) × Filled l.fn.op l.fn.payload l.fn.kids l.kid-index l.node

@@ -1,28 +1,34 @@
 use native.Mathlib.Omega.{arith}
-use mathlib.Core.Path.{◌∙◌, refl}
+use Rattle.std.proofs.Common.{Bool, true, false, Ok, ap, ◌∙◌, refl, ◌≡◌, ◌+◌, ◌-◌}
+use mir.Val.{bool_byte}
+use Rattle.steps.specs.Machine.{count}
+use Rattle.broken.specs.Words.{is_broken}
 use Rattle.taking.specs.Drain.{drain_broken, drain_done, drain_spent, going_ok, going_on, going_start}
 use Rattle.taking.proofs.drains.drain_within.Goals as goal
 
-pub loop-left-init : goal.loop-left-init
-loop-left-init c = (refl, going_start _ _ _ c.requires)
+-- a yes as a number
+byte_is_count : (b : Bool) → bool_byte b ≡ count b
+byte_is_count true = refl
+byte_is_count false = refl
+
+pub loop-taken-init : goal.loop-taken-init
+loop-taken-init c = let all : c.args.fuel - 0 ≡ c.args.fuel = omega arith in (refl, rw all (going_start _ _ _ c.requires))
 
 pub one_entry-requires : goal.one_entry-requires
-one_entry-requires c = going_ok _ _ _ _ _ _ _ _ c.loop-left.invariant.1
+one_entry-requires c = going_ok _ _ _ _ _ _ _ _ c.loop-taken.invariant.1
 
-pub returns-in-EntryBroken : goal.returns-in-EntryBroken
-returns-in-EntryBroken c = drain_broken _ _ _ _ _ _ _ _ c.loop-left.invariant.1 _ _ c.one_entry.ensures c.in-EntryBroken.is
+pub returns-in_err-closed : goal.returns-in_err-closed
+returns-in_err-closed c = rw (is_broken _ c.from_residual.ensures.0) (drain_broken _ _ _ _ _ _ _ _ c.loop-taken.invariant.1 _ _ c.one_entry.ensures c.in_err-closed.was)
 
-pub returns-in-EntryNone : goal.returns-in-EntryNone
-returns-in-EntryNone c = drain_done _ _ _ _ _ _ _ _ c.loop-left.invariant.1 _ _ c.one_entry.ensures c.in-EntryNone.is
+pub returns-in_default : goal.returns-in_default
+returns-in_default c = drain_done _ _ _ _ _ _ _ _ c.loop-taken.invariant.1 _ _ c.one_entry.ensures (c.in_ok-closed.was ∙ ap Ok c.in_default.is)
 
-pub overflow_add-yes : goal.overflow_add-yes
-overflow_add-yes c = omega (arith, c.one_entry.ensures.range _ _ c.in-EntryOne.is, c.loop-left.invariant.1.few, c.loop-left.invariant.1.spent)
-
-pub overflow_add-taken : goal.overflow_add-taken
-overflow_add-taken c = omega (arith, c.loop-left.invariant.1.spent, c.loop-left-test.true)
-
-pub loop-left-preserved : goal.loop-left-preserved
-loop-left-preserved c = (c.one_entry.ensures.inside.size ∙ c.loop-left.invariant.0, going_on _ _ _ _ _ _ _ _ c.loop-left.invariant.1 _ _ c.one_entry.ensures _ _ c.in-EntryOne.is c.loop-left-test.true)
+pub loop-taken-preserved : goal.loop-taken-preserved
+loop-taken-preserved c =
+    let left : c.args.fuel - (c.loop-taken.taken + 1) ≡ c.args.fuel - c.loop-taken.taken - 1 = omega arith in (
+      c.one_entry.ensures.inside.size ∙ c.loop-taken.invariant.0,
+      rw (left, c.from-yes.ensures, byte_is_count) (going_on _ _ _ _ _ _ _ _ c.loop-taken.invariant.1 _ _ c.one_entry.ensures _ (c.in_ok-closed.was ∙ ap Ok c.in-Some.is) (omega arith)),
+    )
 
 pub returns : goal.returns
-returns c = drain_spent _ _ _ _ _ _ _ _ c.loop-left.invariant.1 (omega (arith, c.loop-left-test.false))
+returns c = drain_spent _ _ _ _ _ _ _ _ c.loop-taken.invariant.1 (omega arith)

@@ -1,21 +1,24 @@
 use native.Mathlib.Omega.{arith}
+use Rattle.std.proofs.Common.{Ok, ap, ◌∙◌}
+use Rattle.broken.specs.Words.{is_broken}
 use Rattle.taking.specs.Leave.{oust_absent, oust_broken, oust_done, oust_none, oust_torn, oust_unknown}
 use Rattle.taking.proofs.keys.oust.Goals as goal
 
-pub returns-then-h-x : goal.returns-then-h-x
-returns-then-h-x c = oust_unknown _ _ _ _ c.ask.ensures _ c.in-AskedAt.is c.if-h-x.true
+pub returns-in_err-old : goal.returns-in_err-old
+returns-in_err-old c = rw (is_broken _ c.from_residual.ensures.0) (oust_broken _ _ _ _ c.ask.ensures c.in_err-old.was)
 
-pub returns-in-AskedBroken : goal.returns-in-AskedBroken
-returns-in-AskedBroken c = oust_broken _ _ _ _ c.ask.ensures c.in-AskedBroken.is
+pub returns-in_default : goal.returns-in_default
+returns-in_default c = oust_none _ _ _ _ c.ask.ensures (c.in_ok-old.was ∙ ap Ok c.in_default.is)
 
-pub returns-in-AskedNone : goal.returns-in-AskedNone
-returns-in-AskedNone c = oust_none _ _ _ _ c.ask.ensures c.in-AskedNone.is
+pub returns-then-h-old : goal.returns-then-h-old
+returns-then-h-old c = oust_unknown _ _ _ _ c.ask.ensures _ (c.in_ok-old.was ∙ ap Ok c.in-Some.is) c.if-h-old.true
 
-pub returns-in-CutDone : goal.returns-in-CutDone
-returns-in-CutDone c = oust_done _ _ _ _ c.ask.ensures _ c.in-AskedAt.is _ c.bucket-bucket.ensures _ _ c.leave.ensures (omega (arith, c.if-h-x.false))
+pub returns-in_err-leave : goal.returns-in_err-leave
+returns-in_err-leave c =
+    rw (is_broken _ c.from_residual-in_err-leave.ensures.0) (oust_torn _ _ _ _ c.ask.ensures _ (c.in_ok-old.was ∙ ap Ok c.in-Some.is) _ c.bucket-bucket.ensures _ _ c.leave.ensures c.in_err-leave.was)
 
-pub returns-in-CutAbsent : goal.returns-in-CutAbsent
-returns-in-CutAbsent c = oust_absent _ _ _ _ c.ask.ensures _ c.in-AskedAt.is _ c.bucket-bucket.ensures _ _ c.leave.ensures c.in-CutAbsent.is
+pub returns-then-not-branch : goal.returns-then-not-branch
+returns-then-not-branch c = oust_absent _ _ _ _ c.ask.ensures _ (c.in_ok-old.was ∙ ap Ok c.in-Some.is) _ c.bucket-bucket.ensures _ _ c.leave.ensures (c.in_ok-leave.was ∙ ap Ok c.if-not-branch.true)
 
-pub returns-in-CutBroken : goal.returns-in-CutBroken
-returns-in-CutBroken c = oust_torn _ _ _ _ c.ask.ensures _ c.in-AskedAt.is _ c.bucket-bucket.ensures _ _ c.leave.ensures c.in-CutBroken.is
+pub returns : goal.returns
+returns c = oust_done _ _ _ _ c.ask.ensures _ (c.in_ok-old.was ∙ ap Ok c.in-Some.is) _ c.bucket-bucket.ensures _ _ c.leave.ensures (omega (arith, c.if-h-old.false))

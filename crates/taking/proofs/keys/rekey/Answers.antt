@@ -1,11 +1,13 @@
+use Rattle.broken.specs.Words.{is_broken}
 use Rattle.taking.specs.Rekey.{rekey_done, rekey_lost, rekey_stuck}
 use Rattle.taking.proofs.keys.rekey.Goals as goal
 
-pub returns-in-RootingBroken : goal.returns-in-RootingBroken
-returns-in-RootingBroken c = rekey_lost _ _ _ _ c.fresh_key-f.ensures c.in-RootingBroken.is
+pub returns-in_err-key : goal.returns-in_err-key
+returns-in_err-key c = rw (is_broken _ c.from_residual.ensures.0) (rekey_lost _ _ _ _ c.fresh_key.ensures c.in_err-key.was)
 
-pub returns-in-ChangeBroken : goal.returns-in-ChangeBroken
-returns-in-ChangeBroken c = rekey_stuck _ _ _ _ c.fresh_key-f.ensures _ _ _ _ c.oust-was.ensures c.settle.ensures c.in-ChangeBroken.is
+pub returns-in_err-settle : goal.returns-in_err-settle
+returns-in_err-settle c =
+    rw (is_broken _ c.from_residual-in_err-settle.ensures.0) (rekey_stuck _ _ _ _ c.fresh_key.ensures _ c.in_ok-key.was _ _ _ _ c.oust-was.ensures c.settle.ensures c.in_err-settle.was)
 
-pub returns-in-ChangeDone : goal.returns-in-ChangeDone
-returns-in-ChangeDone c = rekey_done _ _ _ _ c.fresh_key-f.ensures _ _ _ _ c.oust-was.ensures c.settle.ensures
+pub returns : goal.returns
+returns c = rekey_done _ _ _ _ c.fresh_key.ensures _ c.in_ok-key.was _ _ _ _ c.oust-was.ensures c.settle.ensures
