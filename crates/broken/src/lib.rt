@@ -1,5 +1,4 @@
-// The one error of a step inside a call: the words are none that calls could have produced. Every crate that reads words answers it, and the
-// open calls turn it into their refusal 9.
+// The one error of a step inside a call: the words are none that calls could have produced. The open calls turn it into their refusal 9.
 #![tactic(auto)]
 
 use std::error::Error;

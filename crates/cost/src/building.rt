@@ -3,7 +3,7 @@ ghost use Rattle.std.specs.Prelude.{◌+◌, ◌<◌, ◌≤◌};
 
 use super::calls;
 use super::calls::WORDS;
-use super::drawing::{below, next};
+use drawing::{below, next};
 use language::{Id, Node, Op};
 
 // How many ids there are, and the generator's number.

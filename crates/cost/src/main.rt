@@ -11,7 +11,6 @@ ghost use Rattle.std.specs.Prelude.{◌≤◌};
 
 mod building;
 mod calls;
-mod drawing;
 mod text;
 
 use calls::WORDS;

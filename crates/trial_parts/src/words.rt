@@ -6,7 +6,9 @@
 //     TO .. SIZE        guards, never lent
 //
 // What stands in the part comes from a linear congruential generator, so that every run is the same.
-ghost use Rattle.std.specs.Prelude.{◌<◌, ◌≤◌};
+ghost use Rattle.std.specs.Prelude.{◌≤◌};
+
+pub use drawing::{draw, draw_word, next};
 
 pub const SIZE: usize = 80;
 
@@ -15,30 +17,6 @@ pub const FROM: usize = 8;
 pub const TO: usize = 72;
 
 pub type Words = [u32; SIZE];
-
-// The generator's next number: a word, of which the upper half is used where a small number is asked for.
-pub fn next(x: u64) -> u64
-    ensures { result < 4294967296 }
-{
-    (x % 4294967296 * 1664525 + 1013904223) % 4294967296
-}
-
-// A number below `n` out of a seed. Another `salt` gives another number.
-pub fn draw(seed: u64, salt: u64, n: usize) -> usize
-    requires { (1 ≤ n) × (salt < 100) }
-    ensures { result < n }
-{
-    let x = next(next(seed) + salt * 40503);
-    (x / 65536) as usize % n
-}
-
-// The same as a word.
-pub fn draw_word(seed: u64, salt: u64, n: usize) -> u32
-    requires { (1 ≤ n) × (n ≤ 100) × (salt < 100) }
-    ensures { result < n }
-{
-    draw(seed, salt, n) as u32
-}
 
 // Every lent word anew, each below `bound`.
 fn fill_small(ws: &mut Words, seed: u64, bound: u64)
