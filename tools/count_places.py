@@ -19,7 +19,8 @@ def files(commit, folder):
         return [(n, open(n).read()) for n in names]
     listed = subprocess.run(['git', 'ls-tree', '-r', '--name-only', commit, 'crates'], capture_output=True, text=True, check=True)
     names = [n for n in listed.stdout.split('\n') if re.match(r'crates/[^/]*/%s/.*\.(rt|antt)$' % folder, n)]
-    shown = subprocess.run(['git', 'cat-file', '--batch'], input='\n'.join('%s:%s' % (commit, n) for n in names) + '\n', capture_output=True, text=True, check=True).stdout.encode()
+    asked = ''.join('%s:%s\n' % (commit, n) for n in names).encode()
+    shown = subprocess.run(['git', 'cat-file', '--batch'], input=asked, capture_output=True, check=True).stdout
     out, at = [], 0
     for n in names:
         end = shown.index(b'\n', at)
@@ -46,7 +47,7 @@ def functions(text):
             k += 1
             continue
         indent, start = m.group(1), k
-        while k < len(rows) and rows[k] != indent + '}' and not (k == start and rows[k].rstrip().endswith('}')) and not rows[k].endswith(';'):
+        while k < len(rows) and not (rows[k] == indent + '}' or rows[k].endswith(';') or k == start and rows[k].rstrip().endswith('}')):
             k += 1
         block = [r for r in rows[start:k + 1] if not r.strip().startswith('//')]
         cut = next((i for i, r in enumerate(block) if r == indent + '{'), 0)
@@ -60,7 +61,8 @@ def skeleton(body):
     """The body with each name and number replaced by its turn of first appearance."""
     seen = {}
     keep = {'let', 'mut', 'if', 'else', 'while', 'for', 'in', 'match', 'return', 'true', 'false', 'as', 'move', 'ghost'}
-    return re.sub(r'[A-Za-z_]\w*|\d+', lambda m: m.group(0) if m.group(0) in keep else seen.setdefault(m.group(0), '#%d' % len(seen)), '\n'.join(r.strip() for r in body))
+    text = '\n'.join(r.strip() for r in body)
+    return re.sub(r'[A-Za-z_]\w*|\d+', lambda m: m.group(0) if m.group(0) in keep else seen.setdefault(m.group(0), '#%d' % len(seen)), text)
 
 
 def point1(src):
@@ -82,7 +84,9 @@ def point3(src):
 
 
 def point4(src):
-    return matching(src, r'\bfn (eq|ne|cmp|same\w*|equal\w*|compare\w*|order\w*|then|clone\w*|copy\w*|number|word|digits?|decimal|flag|line_end|none|write_\w*num\w*)\b')
+    compares = r'eq|ne|cmp|same\w*|equal\w*|compare\w*|order\w*|then|clone\w*|copy\w*'
+    prints = r'number|word|digits?|decimal|flag|line_end|none|write_\w*num\w*'
+    return matching(src, r'\bfn (%s|%s)\b' % (compares, prints))
 
 
 def point5(src):
@@ -101,7 +105,9 @@ def point5(src):
 
 
 def point6(src):
-    return matching(src, r'fn \w+\(.*: &(mut )?\[[^]]*\], (count|len|length|k|n|many|size|used): usize|\[[^]]*; [A-Z_]+\], (pub )?(count|len|used)|^\s*(pub )?(count|len|used): (u32|usize|u64),')
+    lent = r'fn \w+\(.*: &(mut )?\[[^]]*\], (count|len|length|k|n|many|size|used): usize'
+    held = r'\[[^]]*; [A-Z_]+\], (pub )?(count|len|used)|^\s*(pub )?(count|len|used): (u32|usize|u64),'
+    return matching(src, lent + '|' + held)
 
 
 def point7(src):
@@ -117,7 +123,8 @@ def main():
     src, proofs = files(commit, 'src'), files(commit, 'proofs')
     names = ['own enums', 'functions of one shape', 'while loops', 'equality, order, copying and printing by hand',
              'clauses asked, and parameters carried, in three functions or more', 'lengths beside their buffers', 'switches on a step', 'proof files']
-    for k, (name, found) in enumerate(zip(names, [point1(src), point2(src), point3(src), point4(src), point5(src), point6(src), point7(src), point8(proofs)]), 1):
+    counted = [point1(src), point2(src), point3(src), point4(src), point5(src), point6(src), point7(src), point8(proofs)]
+    for k, (name, found) in enumerate(zip(names, counted), 1):
         if only in (None, str(k)):
             extra = ', %d lines' % sum(int(f.split(': ')[1].split()[0]) for f in found) if k == 8 else ''
             print('%d. %s: %d%s' % (k, name, len(found), extra))
