@@ -42,17 +42,20 @@ def functions(text):
     """Name, parameters, clauses and body of each function of a file."""
     out, rows, k = [], text.split('\n'), 0
     while k < len(rows):
-        m = re.match(r'( *)(pub )?(const )?(ghost )?fn (\w+)', rows[k])
+        m = re.match(r'( *)(pub(\([a-z]+\))? )?(const )?(ghost )?(extern "C" )?fn (\w+)', rows[k])
         if not m:
             k += 1
             continue
-        indent, start = m.group(1), k
-        while k < len(rows) and not (rows[k] == indent + '}' or rows[k].endswith(';') or k == start and rows[k].rstrip().endswith('}')):
+        indent, start, opened = m.group(1), k, rows[k].endswith('{')
+        while not (rows[k] == indent + '}' or rows[k].endswith(';') and not opened or k == start and opened and rows[k].endswith('}')):
             k += 1
+            opened = opened or rows[k] == indent + '{' or rows[k].startswith(indent + ')') and rows[k].endswith('{')
         block = [r for r in rows[start:k + 1] if not r.strip().startswith('//')]
-        cut = next((i for i, r in enumerate(block) if r == indent + '{'), 0)
-        clauses = [r.strip() for r in block[1:cut] if re.match(r' *(requires|ensures) ', r)]
-        out.append((m.group(5), start + 1, block[0], clauses, block[cut + 1:-1] if cut else block[1:-1]))
+        end = next((i for i, r in enumerate(block) if re.search(r'\)( -> .*)?( \{|;)?$', r)), 0)
+        head = re.sub(r'\s+', ' ', ' '.join(block[:end + 1])).replace('( ', '(').replace(', )', ')')
+        body = end + 1 if block[end].endswith('{') else next((i + 1 for i, r in enumerate(block) if r == indent + '{'), len(block))
+        clauses = [r.strip() for r in block[end + 1:body] if re.match(r' *(requires|ensures) ', r)]
+        out.append((m.group(7), start + 1, head, clauses, block[body:-1]))
         k += 1
     return out
 
@@ -94,7 +97,7 @@ def point5(src):
     for n, t in src:
         for name, line, head, cl, _ in functions(t):
             for c in cl:
-                m = re.match(r'requires \w+ \{ (.*) \}$', c)
+                m = re.match(r'requires (?:\w+ )?\{ (.*) \}$', c)
                 if m:
                     clauses[skeleton([re.sub(r'\.(old|now|new)\b', '', m.group(1))])].append((n, line, name, m.group(1)))
             params = re.findall(r'(\w+): ([^,()]+(?:\[[^]]*\])?)', head.split(' -> ')[0].split('(', 1)[-1])

@@ -12,7 +12,7 @@ use Rattle.steps.specs.Machine.{grow}
 use Rattle.adding.specs.declared.GiveError.{GiveError}
 use Rattle.adding.specs.declared.GiveError.TheVariants.{NoRoom}
 use Rattle.adding.specs.declared.Given.{Given}
-use Rattle.adding.specs.declared.Given.TheVariants.{New, Old}
+use Rattle.adding.specs.declared.Given.TheVariants.{New as GivenNew, Old as GivenOld}
 use Rattle.adding.specs.declared.Probed.{Probed}
 pub use Rattle.growing.specs.Known.{Known}
 use Rattle.growing.specs.Roots.{Rooted}
@@ -40,12 +40,22 @@ Full h x = (h.n ≤ h.ids) ⊎ (h.m < h.places + length x.kids)
 abbrev pub Room : Head → Term → Type 0
 Room h x = (h.ids < h.n) × (h.places + length x.kids ≤ h.m)
 
-pub record Gives (h : Head) (x : Term) (ws : List ℕ) (r : Result Given GiveError) (ws' : List ℕ) : Type 0 where
+-- what `give` answers, with the head that it leaves: an id that was there, or a new one
+pub data Gave : Type 0 where
+  Old : Id → Head → Gave
+  New : Id → Head → Gave
+
+abbrev pub given : Head → Result Given GiveError → Result Gave GiveError
+given h (Ok (GivenOld i)) = Ok (Old i h)
+given h (Ok (GivenNew i)) = Ok (New i h)
+given h (Err e) = Err e
+
+pub record Gives (h : Head) (x : Term) (ws : List ℕ) (r : Result Gave GiveError) (ws' : List ℕ) : Type 0 where
   pub inside : Inside h.n h.m ws ws'
-  pub old : (i : Id) → r ≡ Ok (Old i) → (i.0 < h.ids) × (ws' ≡ ws)
+  pub old : (i : Id) (k : Head) → r ≡ Ok (Old i k) → (i.0 < h.ids) × (k ≡ h) × (ws' ≡ ws)
   pub full : r ≡ Err NoRoom → Full h x × (ws' ≡ ws)
-  pub new : (k : Head) → r ≡ Ok (New k) → Near (length ws) h k × (k.ids ≡ h.ids + 1)
-  pub found : (g : Graph) (i : ℕ) → HoldsAt h h.places (view h.n h.m ws) g → kept_for g x ≡ Some i → r ≡ Ok (Old (record { 0 = i }))
+  pub new : (i : Id) (k : Head) → r ≡ Ok (New i k) → (i.0 ≡ h.ids) × Near (length ws) h k × (k.ids ≡ h.ids + 1)
+  pub found : (g : Graph) (i : ℕ) → HoldsAt h h.places (view h.n h.m ws) g → kept_for g x ≡ Some i → r ≡ Ok (Old (record { 0 = i }) h)
   pub shut : (g : Graph) → HoldsAt h h.places (view h.n h.m ws) g → kept_for g x ≡ None → Full h x → r ≡ Err NoRoom
   pub grown : (g : Graph) → HoldsAt h h.places (view h.n h.m ws) g → kept_for g x ≡ None → Room h x
-      → (k : Head) × (r ≡ Ok (New k)) × HoldsAt k k.places (view h.n h.m ws') (grow g x)
+      → (k : Head) × (r ≡ Ok (New (record { 0 = h.ids }) k)) × HoldsAt k k.places (view h.n h.m ws') (grow g x)

@@ -1,24 +1,24 @@
-// A node looked for and, if it is not found, added, inside a call. The words are a graph's, with the head h read before (layout has their table). Asking reads these parts
-// and changes none:
+// A node looked for and, if it is not found, added, inside a call. Asking reads these parts of a graph's words (layout has their table) and changes none:
 //
 //   part      what it tells
 //   forest    the root of each child
 //   table     the ids in the bucket of the node with root children
 //   rows      the keys of these ids
 //
-// The head in the words stays: `give` answers the new numbers. What each function promises: specs/Says.antt.
+// `give` changes the head beside the words where it adds; the head in the words is written once, at the end of a call.
+// What each function promises: specs/Says.antt.
 #![tactic(auto)]
 
-ghost use Rattle.std.specs.Prelude.{◌≡◌, ◌<◌, ◌≤◌, length};
+ghost use Rattle.std.specs.Prelude.{◌≡◌, ◌≤◌};
 ghost use Rattle.language.specs.Term.{places};
 ghost use Rattle.language.specs.Struct.{node_of};
-ghost use Rattle.layout.specs.Head.{HeadOk};
-ghost use Rattle.adding.specs.Says.{Known, Probes, Gives};
+ghost use Rattle.layout.specs.Did.{SameLoan};
+ghost use Rattle.adding.specs.Says.{Known, Probes, Gives, given};
 ghost use Rattle.adding.specs.declared.GiveError.TheVariants.{BrokenWords};
 
 use broken::Broken;
 use language::{Id, Node};
-use layout::Head;
+use layout::{Graph, GraphMut};
 use std::error::Error;
 use std::fmt;
 
@@ -29,11 +29,11 @@ pub struct Probed {
     pub key: Node,
 }
 
-// An id that was there, or a new one, with the new numbers of the head.
+// An id that was there, or a new one.
 #[derive(Clone, Copy)]
 pub enum Given {
     Old(Id),
-    New(Head),
+    New(Id),
 }
 
 // There is no room for a new id, or no calls could have produced the words.
@@ -63,35 +63,35 @@ impl From<Broken> for GiveError {
 }
 
 // What the table has for the node with root children.
-pub fn probe(ws: &[u32], h: Head, node: Node) -> Result<Probed, Broken>
-    requires head_ok { HeadOk (length ws.now) h }
-    requires count_le_places { (node.count ≤ places) × Known (node_of node) h.ids }
-    ensures { Probes h node ws.now result }
+pub fn probe(g: &Graph<'_>, node: Node) -> Result<Probed, Broken>
+    requires { (node.count ≤ places) × Known (node_of node) g.now.h.ids }
+    ensures { Probes g.now.h node g.now.ws.now result }
 {
-    let key = growing::with_roots(ws, h, node)?;
-    let seen = parts::on_table::ask(ws, h, key)?;
+    let key = growing::with_roots(g, node)?;
+    let seen = parts::on_table::ask(g, key)?;
     match seen {
-        Some(x) if h.ids <= x.0 as usize => Err(Broken),
+        Some(x) if g.h.ids <= x.0 as usize => Err(Broken),
         _ => Ok(Probed { seen, key }),
     }
 }
 
 // The id of a node, which is added if it was not there and there is room.
-pub fn give(ws: &mut [u32], h: Head, node: Node) -> Result<Given, GiveError>
-    requires head_ok { HeadOk (length ws.old) h }
-    requires count_le_places { (node.count ≤ places) × Known (node_of node) h.ids }
-    ensures { Gives h (node_of node) ws.old result ws.new }
+pub fn give(g: &mut GraphMut<'_>, node: Node) -> Result<Given, GiveError>
+    requires { (node.count ≤ places) × Known (node_of node) g.old.h.ids }
+    ensures loan { SameLoan g.old g.new }
+    ensures gives { Gives g.old.h (node_of node) g.old.ws.now (given g.new.h result) g.new.ws.now }
 {
-    let p = probe(ws, h, node)?;
+    let p = probe(&g.view(), node)?;
     if let Some(x) = p.seen {
         return Ok(Given::Old(x));
     }
+    let h = g.h;
     if h.n <= h.ids {
         return Err(GiveError::NoRoom);
     }
     if h.m < h.places + node.count as usize {
         return Err(GiveError::NoRoom);
     }
-    let k = growing::grow(ws, h, node, p.key)?;
-    Ok(Given::New(k))
+    growing::grow(g, node, p.key)?;
+    Ok(Given::New(Id(h.ids as u32)))
 }

@@ -2,13 +2,11 @@
 -- for the words, as document 01 has it of every list; a refusal leaves the list as it was.
 -- Assumes nothing.
 use Rattle.std.specs.Prelude.{Err, None, Ok, Option, Result, Some, List, [], ◌∷◌, ◌≡◌, ℕ}
-use Rattle.std.specs.Option.{ok_or}
 use Rattle.language.specs.declared.Node.{Node}
 use Rattle.spelling.specs.Alone.{SpellsOne}
 use Rattle.egraph.specs.Answers.{Answer, no_by, number_of, yes_with}
 use Rattle.egraph.specs.Listing.{NodeSays}
 use Rattle.egraph.specs.declared.Refusal.{Refusal}
-use Rattle.egraph.specs.declared.Refusal.TheVariants.{TooLong}
 use Rattle.capi.specs.Answered.{Answered}
 use Rattle.capi.specs.Spoken.{spoken}
 use Rattle.capi.specs.declared.Reply.{Reply}
@@ -26,14 +24,3 @@ pub record AnsweredWords (ws : List ℕ) (i : ℕ) (list : List ℕ) (r : Reply)
   pub answer : Result Node Refusal
   pub made : NodeSays ws i answer
   pub told : NodeTold answer list r list'
-
--- ---- as the code puts them together: a node in a list, of which the call is told
-
-abbrev pub NodeIn : Result Node Refusal → List ℕ → Result ℕ Refusal → List ℕ → Type 0
-NodeIn (Ok x) list r list' = (s : Option ℕ) × SpellsOne list x s list' × (r ≡ ok_or s TooLong)
-NodeIn (Err q) list r list' = (r ≡ Err q) × (list' ≡ list)
-
-pub record NodeSpelled (ws : List ℕ) (i : ℕ) (list : List ℕ) (r : Result ℕ Refusal) (list' : List ℕ) : Type 0 where
-  pub answer : Result Node Refusal
-  pub made : NodeSays ws i answer
-  pub spelled : NodeIn answer list r list'

@@ -15,6 +15,7 @@
 #![tactic(auto)]
 
 // Document 01's number, 0 for success, how many values go with it, and the values. A value that is not there is 0.
+// C reads this struct, so `count` stands beside two values, and there is no slice and no `Option`.
 #[repr(C)]
 #[derive(Clone, Copy)]
 pub struct Reply {

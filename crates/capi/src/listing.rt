@@ -3,10 +3,9 @@ ghost use Rattle.egraph.specs.Answers.{count_says};
 ghost use Rattle.egraph.specs.ClassLists.{ClassesSays, ForOpSays};
 ghost use Rattle.egraph.specs.Listing.{NodesSays};
 ghost use Rattle.capi.specs.Answered.{Answered};
-ghost use Rattle.capi.specs.NodeTold.{AnsweredWords, NodeSpelled};
+ghost use Rattle.capi.specs.NodeTold.{AnsweredWords};
 
 use super::Reply;
-use egraph::Refusal;
 use language::{Id, Op};
 
 #[unsafe(no_mangle)]
@@ -30,18 +29,10 @@ pub extern "C" fn rimo_nodes(ws: &[u32], list: &mut [u32]) -> Reply
     Reply::from(egraph::nodes(ws, list))
 }
 
-// The node of an id as a list of its words, how many these are, or why not.
-fn spell_node(ws: &[u32], id: Id, list: &mut [u32]) -> Result<usize, Refusal>
-    ensures { NodeSpelled ws.now id.0 list.old result list.new }
-{
-    let node = egraph::id_to_node(ws, id)?;
-    spelling::spell_one(list, node).ok_or(Refusal::TooLong)
-}
-
 // The node of an id is a list of its words here, and is refused by 8 like the other lists, where the slice is too short.
 #[unsafe(no_mangle)]
 pub extern "C" fn rimo_id_to_node(ws: &[u32], id: u32, list: &mut [u32]) -> Reply
     ensures { AnsweredWords ws.now id list.old result list.new }
 {
-    Reply::from(spell_node(ws, Id(id), list))
+    Reply::from(egraph::spell_node(ws, Id(id), list))
 }

@@ -16,6 +16,7 @@ pub trait Values {
         ensures { result ≡ spoken (yes_with (values self)) };
 }
 
+// Success with no value; `one` and `two` have values.
 fn none() -> Reply
     ensures { result ≡ spoken (yes_with []) }
 {

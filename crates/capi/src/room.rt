@@ -17,7 +17,7 @@ pub extern "C" fn rimo_need(n: usize, m: usize) -> usize
     layout::need(n, m)
 }
 
-// A fresh graph. No value.
+// A fresh graph. No value. The limits n and m go beside the words, since a caller may lend more words than they need.
 #[unsafe(no_mangle)]
 pub extern "C" fn rimo_setup(ws: &mut [u32], n: usize, m: usize) -> Reply
     ensures { Answered (λ a. SetupSays ws.old n m a ws.new) setup_says result }

@@ -22,7 +22,7 @@ ghost use Rattle.extract.specs.Form.{form_says, FormSays};
 
 use capi::Reply;
 
-// The room that a graph needs, and a fresh graph in it.
+// The room that a graph needs, and a fresh graph in it: the limits n and m go beside the words, since a caller may lend more words than they need.
 
 #[unsafe(no_mangle)]
 pub extern "C" fn rimo_need(n: usize, m: usize) -> usize

@@ -6,7 +6,6 @@ use Rattle.broken.specs.Words.{broken}
 use Rattle.std.proofs.Common.{◌∙◌, sym, arith}
 use Rattle.lists.specs.Reads.{at}
 use Rattle.lists.specs.Stores.{puts, puts_length}
-use Rattle.lists.specs.Tests.{zero_one}
 use Rattle.cells.specs.Join.{join_fits, join_none, pool_join}
 use Rattle.cells.specs.Pool.{Free, Pool, join_l, push_l, row}
 use Rattle.cells.specs.Push.{pool_push, push_fits}
@@ -88,8 +87,3 @@ module _ (ws : List ℕ) (n m a c : ℕ) (rm : Room ws n m) (ha : a < n) (hc : c
       exact = λ _ _ _. (refl, refl);
       law = λ L p. (refl, pool_join ws n m L rm.room p a c ha hc ne (cells_of L p));
     }
-
--- ---- done and broken are two answers
-
-pub change_apart : (r : Result Unit Broken) → r ≡ broken → r ≡ Ok tt → ⊥
-change_apart r e f = zero_one cc

@@ -2,10 +2,9 @@
 -- Assumes nothing.
 use Rattle.std.specs.Prelude.{Ok, Result, List, ◌≡◌, refl, ◌+◌, ◌<◌, ◌^◌, ◌≤◌, suc, ℕ, length}
 use Rattle.broken.specs.declared.Broken.{Broken}
-use Rattle.broken.specs.Words.{broken}
+use Rattle.broken.specs.Words.{broken, err≢ok}
 use Rattle.std.proofs.Common.{◌∙◌, ap, sym, arith}
 use Rattle.lists.specs.Reads.{at}
-use Rattle.lists.specs.Tests.{zero_one}
 use Rattle.cells.specs.Pool.{Pool, row}
 use Rattle.cells.specs.Rows.{fits}
 use Rattle.cells.specs.Stretch.{part_list}
@@ -27,16 +26,13 @@ pub record Reached (ws : List ℕ) (n m a k : ℕ) (r : Result ℕ Broken) : Typ
   pub law : (L : List (List ℕ)) (i : ℕ) → Pool ws n m L → suc (i + k) ≡ length (row L a) → r ≡ Ok (at (row L a) i)
 
 module _ (ws : List ℕ) (n m a k : ℕ) (ha : a < n) where
-  nowhere : (x : ℕ) → broken ≡ Ok x → x < m
-  nowhere x e = zero_one cc
-
   pub reach_far : m ≤ k → Reached ws n m a k broken
   reach_far h = record {
     past = λ _. refl;
     far = λ _. refl;
     stray = λ _. refl;
     exact = λ u v w. absurd (omega arith);
-    inside = nowhere;
+    inside = λ x e. err≢ok e;
     law = λ L i p e. absurd (omega (arith, fits ws n m L p a ha));
   }
 
@@ -46,7 +42,7 @@ module _ (ws : List ℕ) (n m a k : ℕ) (ha : a < n) where
     far = λ _. refl;
     stray = λ _. refl;
     exact = λ v w x. absurd (omega arith);
-    inside = nowhere;
+    inside = λ x e. err≢ok e;
     law = λ L i p e. absurd (omega (arith, (p.rows a ha).final (i + k) e, (p.rows a ha).low (i + k) (omega arith)));
   }
 

@@ -6,6 +6,8 @@
 //   2n + a                       how many cells list a has
 //   3n + c        (c < m)        the cell before cell c
 //
+// `Pool` and the functions that write have `lists`, and `cells` where they need it, beside the words: a caller lends them (document 01), and the length tells
+// neither.
 // A list is read backwards from its last cell, as many cells as its length says: the link of a first cell means nothing, and nor do
 // the last and the first cell of an empty list. A cell is in one list at most. specs/Pool.antt says which lists the words hold.
 #![tactic(auto)]
@@ -105,104 +107,105 @@ pub fn join(
     Ok(())
 }
 
-// The number of cells of a list.
-pub fn len(ws: &[u32], lists: usize, list: usize) -> usize
-    requires { (lists + lists + lists ≤ length ws.now) × (list < lists) }
-    ensures { Word ws.now (list + lists + lists) result }
-{
-    let n = list + lists + lists;
-    ws[n] as usize
+// The lists, to be read.
+#[derive(Clone, Copy)]
+pub struct Pool<'a> {
+    pub ws: &'a [u32],
+    pub lists: usize,
+    pub cells: usize,
+    ghost room: { Room ws.now lists cells },
 }
 
-// The word that holds a list's last cell; it says nothing of an empty list.
-pub fn last(ws: &[u32], lists: usize, list: usize) -> usize
-    requires { (lists + lists + lists ≤ length ws.now) × (list < lists) }
-    ensures { Word ws.now list result }
-{
-    ws[list] as usize
-}
+impl Pool<'_> {
+    // The number of cells of a list.
+    pub fn len(&self, list: usize) -> usize
+        requires { list < self.now.lists }
+        ensures { Word self.now.ws.now (list + self.now.lists + self.now.lists) result }
+    {
+        let n = list + self.lists + self.lists;
+        self.ws[n] as usize
+    }
 
-// The word that holds the cell before a cell; it says nothing of a first cell.
-pub fn link(ws: &[u32], lists: usize, cells: usize, cell: usize) -> usize
-    requires room { Room ws.now lists cells }
-    requires cell_lt_cells { cell < cells }
-    ensures { Word ws.now (lists + lists + lists + cell) result }
-{
-    let p = lists + lists + lists + cell;
-    ws[p] as usize
-}
+    // The word that holds a list's last cell; it says nothing of an empty list.
+    pub fn last(&self, list: usize) -> usize
+        requires { list < self.now.lists }
+        ensures { Word self.now.ws.now list result }
+    {
+        self.ws[list] as usize
+    }
 
-// k steps back from a cell.
-fn walk(ws: &[u32], lists: usize, cells: usize, cell: usize, k: usize) -> Result<usize, Broken>
-    requires room { Room ws.now lists cells }
-    requires cell_lt_cells { cell < cells }
-    ensures { result ≡ trail ws.now lists cells k cell }
-{
-    let mut c = cell;
-    for taken in 0..k {
-        let x = link(ws, lists, cells, c);
-        if x >= cells {
+    // The word that holds the cell before a cell; it says nothing of a first cell.
+    pub fn link(&self, cell: usize) -> usize
+        requires { cell < self.now.cells }
+        ensures { Word self.now.ws.now (self.now.lists + self.now.lists + self.now.lists + cell) result }
+    {
+        let p = self.lists + self.lists + self.lists + cell;
+        self.ws[p] as usize
+    }
+
+    // k steps back from a cell.
+    fn walk(&self, cell: usize, k: usize) -> Result<usize, Broken>
+        requires { cell < self.now.cells }
+        ensures { result ≡ trail self.now.ws.now self.now.lists self.now.cells k cell }
+    {
+        let mut c = cell;
+        for taken in 0..k {
+            let x = self.link(c);
+            if x >= self.cells {
+                return Err(Broken);
+            }
+            c = x;
+        }
+        Ok(c)
+    }
+
+    // The cell of a list that k others follow.
+    pub fn nth(&self, list: usize, k: usize) -> Result<usize, Broken>
+        requires { list < self.now.lists }
+        ensures { Reached self.now.ws.now self.now.lists self.now.cells list k result }
+    {
+        if k >= self.len(list) {
             return Err(Broken);
         }
-        c = x;
-    }
-    Ok(c)
-}
-
-// The cell of a list that k others follow.
-pub fn nth(ws: &[u32], lists: usize, cells: usize, list: usize, k: usize) -> Result<usize, Broken>
-    requires room { Room ws.now lists cells }
-    requires list_lt_lists { list < lists }
-    ensures { Reached ws.now lists cells list k result }
-{
-    if k >= len(ws, lists, list) {
-        return Err(Broken);
-    }
-    if k >= cells {
-        return Err(Broken);
-    }
-    let end = last(ws, lists, list);
-    if end >= cells {
-        return Err(Broken);
-    }
-    walk(ws, lists, cells, end, k)
-}
-
-// Where a cell stands in a list.
-fn seek(
-    ws: &[u32],
-    lists: usize,
-    cells: usize,
-    list: usize,
-    cell: usize,
-) -> Result<Option<Spot>, Broken>
-    requires room { Room ws.now lists cells }
-    requires list_lt_lists { list < lists }
-    ensures { Seen ws.now lists cells list cell result }
-{
-    let links = lists + lists + lists;
-    let size = len(ws, lists, list);
-    if size > cells {
-        return Err(Broken);
-    }
-    let mut spot = list;
-    let mut after = 0;
-    for passed in 0..size {
-        let cur = ws[spot] as usize;
-        if cur >= cells {
+        if k >= self.cells {
             return Err(Broken);
         }
-        if cur == cell {
-            return Ok(Some(Spot {
-                before: size - passed - 1,
-                word: spot,
-                after,
-            }));
+        let end = self.last(list);
+        if end >= self.cells {
+            return Err(Broken);
         }
-        spot = links + cur;
-        after = cur;
+        self.walk(end, k)
     }
-    Ok(None)
+
+    // Where a cell stands in a list.
+    fn seek(&self, list: usize, cell: usize) -> Result<Option<Spot>, Broken>
+        requires { list < self.now.lists }
+        ensures { Seen self.now.ws.now self.now.lists self.now.cells list cell result }
+    {
+        let links = self.lists + self.lists + self.lists;
+        let size = self.len(list);
+        if size > self.cells {
+            return Err(Broken);
+        }
+        let mut spot = list;
+        let mut after = 0;
+        for passed in 0..size {
+            let cur = self.ws[spot] as usize;
+            if cur >= self.cells {
+                return Err(Broken);
+            }
+            if cur == cell {
+                return Ok(Some(Spot {
+                    before: size - passed - 1,
+                    word: spot,
+                    after,
+                }));
+            }
+            spot = links + cur;
+            after = cur;
+        }
+        Ok(None)
+    }
 }
 
 // Takes a cell out of a list, wherever it stands there: the word that names it then names the cell before it.
@@ -217,7 +220,8 @@ pub fn remove(
     requires list_lt_lists { (list < lists) × (cell < cells) }
     ensures { Removed ws.old ws.new lists cells list cell result }
 {
-    let Some(spot) = seek(ws, lists, cells, list, cell)? else {
+    let pool = Pool { ws, lists, cells };
+    let Some(spot) = pool.seek(list, cell)? else {
         return Ok(false);
     };
     let f = list + lists;

@@ -1,14 +1,14 @@
 -- Demand 3: after a rebuild two ids have one root exactly when the requested unions force them equal, and before it one root still means forced equal.
 -- A rebuild has one outcome (Ends: and there is one), and a second one does nothing.
 -- Assumes nothing.
-use Rattle.std.specs.Prelude.{Bool, false, true, ◌↔◌, ◌≢◌, ◌⊎◌, ◌≡◌, refl, ◌+◌, ◌<◌, suc, zero, ℕ, length, Option, None, Some}
+use Rattle.std.specs.Prelude.{false, true, ◌↔◌, ◌≢◌, ◌⊎◌, ◌≡◌, refl, ◌+◌, ◌<◌, suc, zero, ℕ, length, Option, None, Some}
 use mathlib.Core.List.{List, [], ◌∷◌, cons≢nil, map}
 use Rattle.std.proofs.Common.{inl, inr, ◌∙◌, ap, sym, arith, ext_get_or}
 use Rattle.std.proofs.Math.Decide.{dec_lt, ℕ_discrete}
+use Rattle.std.proofs.lemmas.Bool.{false≢true}
 use Rattle.std.proofs.lemmas.List.{length-map}
 use Rattle.lists.specs.Members.{Mem, mem-nil}
 use Rattle.lists.specs.Reads.{at, get_or_map_lt}
-use Rattle.lists.specs.Tests.{zero_one}
 use Rattle.language.specs.Term.{Match, Term}
 use Rattle.steps.specs.Forced.{Forced, Made, alike, asked, back, rebuilt, self, then}
 use Rattle.steps.specs.Graph.{Graph, canon, ids, kept, key_of, node, root, uses}
@@ -116,9 +116,6 @@ clean_empty M = made_keeps (λ c g. g.clean ≡ true → g.pending ≡ []) (reco
     at_end = λ c g z p e. z;
   };
 }) M
-  where
-    false≢true : ◌≡◌ {A = Bool} false true → ⊥
-    false≢true e = zero_one cc
 
 -- demand 3: then two ids have one root exactly when the requested unions force them equal
 pub demand_3 : {us : List (ℕ × ℕ)} {g : Graph} → Made us g → g.clean ≡ true → (i j : ℕ) → (root g.roots i ≡ root g.roots j) ↔ Forced g.nodes us i j

@@ -13,7 +13,7 @@ pub struct Built {
     pub seed: u64,
 }
 
-// Leaf i has the operator 1 and the payload i.
+// Leaf i has the operator 1 and the payload i. `count` says how many leaves are added, and nothing of the words.
 fn add_leaves(rt: &impl Print, ws: &mut [u32; WORDS], count: u32) {
     for i in 0..count {
         calls::add(rt, ws, Node::leaf(Op(1), i));

@@ -1,4 +1,5 @@
-// The open calls on the one array of words. A refusal is written out, and the call then gives what its type starts from: 0, or no.
+// The open calls on the one array of words. A refusal is written out, and the call then gives what its type starts from: 0, or no. What prints and the words
+// are two parameters, as in the whole program: the first is the program's own, and the second is all that a call is lent.
 ghost use Rattle.std.specs.Prelude.{◌≤◌};
 
 use super::text;

@@ -1,4 +1,5 @@
-// Numbers that look random, the same in every run: a linear congruential generator. The programs of the gate draw from it.
+// What the programs of random calls share: numbers that look random, the same in every run, from a linear congruential generator;
+// and how many words a call changed.
 #![tactic(auto)]
 
 ghost use Rattle.std.specs.Prelude.{◌<◌, ◌≤◌};
@@ -18,7 +19,8 @@ pub fn below(x: u64, n: u32) -> u32
     (x % 4294967296 / 65536) as u32 % n
 }
 
-// A number below `n` out of a seed. Another `salt` gives another number.
+// A number below `n` out of a seed. Another `salt` gives another number: the seed is the trial's, and the salt the place in the program that draws, so that they
+// stay two.
 pub fn draw(seed: u64, salt: u64, n: usize) -> usize
     requires { (1 ≤ n) × (salt < 100) }
     ensures { result < n }
@@ -33,4 +35,9 @@ pub fn draw_word(seed: u64, salt: u64, n: usize) -> u32
     ensures { result < n }
 {
     draw(seed, salt, n) as u32
+}
+
+// How many of two slices' words differ.
+pub fn changed(old: &[u32], new: &[u32]) -> u64 {
+    old.iter().zip(new).filter(|(a, b)| a != b).count() as u64
 }

@@ -5,15 +5,15 @@ ghost use Rattle.layout.specs.Head.{HeadOk};
 ghost use Rattle.eclass.specs.Checks.{FineIn};
 ghost use Rattle.eclass.specs.Going.{Going, going, members_in};
 
+use crate::classes::Classes;
 use language::Id;
-use layout::Head;
+use layout::Graph;
 use std::marker::Model;
 
 // The members that are still to come: `left` of them, and `id` is the last of these. A contract sees their list.
 #[derive(Drop)]
 pub struct Members<'a> {
-    ws: &'a [u32],
-    h: Head,
+    g: Graph<'a>,
     left: usize,
     id: Id,
 }
@@ -21,9 +21,9 @@ pub struct Members<'a> {
 impl<'a> Model for Members<'a> {
     ghost Value = { List ℕ };
 
-    ghost view = { λ s. going s.h s.ws.now s.left s.id.0 };
+    ghost view = { λ s. going s.g.h s.g.ws.now s.left s.id.0 };
 
-    ghost invariant = { λ s. Going s.h s.ws.now s.left s.id.0 };
+    ghost invariant = { λ s. Going s.g.h s.g.ws.now s.left s.id.0 };
 }
 
 impl<'a> Iterator for Members<'a> {
@@ -38,26 +38,24 @@ impl<'a> Iterator for Members<'a> {
             return None;
         }
         let id = self.id;
-        self.id = parts::on_members::link(self.ws, self.h, id);
+        self.id = parts::on_members::link(&self.g, id);
         self.left -= 1;
         Some(id)
     }
 }
 
 impl<'a> Members<'a> {
-    // The members of the class of an id, whose walk is unbroken.
-    pub fn of_class(ws: &'a [u32], h: Head, r: Id) -> Members<'a>
-        requires head_ok { HeadOk (length ws.now) h }
-        requires r_lt_ids { r.0 < h.ids }
-        requires fine_in { FineIn h ws.now r.0 }
-        ensures all { result ≡ members_in h ws.now r.0 }
+    // The members of the class of an id.
+    pub fn of_class(classes: &Classes<'a>, r: Id) -> Members<'a>
+        requires { r.0 < classes.now.g.h.ids }
+        ensures all { result ≡ members_in classes.now.g.h classes.now.g.ws.now r.0 }
         ensures few { length result < 2 ^ 32 }
     {
+        let g = classes.g;
         Members {
-            ws,
-            h,
-            left: parts::on_members::len(ws, h, r),
-            id: parts::on_members::last(ws, h, r),
+            g,
+            left: parts::on_members::len(&g, r),
+            id: parts::on_members::last(&g, r),
         }
     }
 }

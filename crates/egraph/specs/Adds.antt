@@ -4,7 +4,7 @@
 -- Assumes nothing.
 use Rattle.std.specs.Prelude.{Err, None, Ok, Result, Some, ◌≢◌, ◌⊎◌, ◌≡◌, ◌<◌, ◌≤◌, ℕ, length, Option}
 use Rattle.broken.specs.declared.Broken.{Broken}
-use Rattle.broken.specs.Words.{broken}
+use Rattle.broken.specs.Words.{apart, broken}
 use mathlib.Core.List.{List, [], ◌∷◌}
 use Rattle.std.proofs.Common.{inl, inr, ◌∙◌, ap, sym, arith}
 use Rattle.std.proofs.Math.Path.{refl, subst}
@@ -16,19 +16,19 @@ use Rattle.language.specs.declared.Node.{Node}
 use Rattle.steps.specs.Graph.{Graph, ids, root}
 use Rattle.steps.specs.Machine.{Given as GivenId, add, add_by, add_uncanonical, grow, lookup}
 use Rattle.closure.specs.Facts.{root_more, root_out}
-use Rattle.adding.specs.Says.{Full, Gives, Known, Probes, Room, kept_for}
+use Rattle.adding.specs.Giving.{hit, miss, no_graph}
+use Rattle.adding.specs.Says.{Full, Gave, Gives, New, Old, Known, Probes, Room, kept_for}
 use Rattle.adding.specs.declared.Probed.{Probed}
-use Rattle.adding.specs.declared.Given.{Given}
-use Rattle.adding.specs.declared.Given.TheVariants.{New, Old}
 use Rattle.adding.specs.declared.GiveError.{GiveError}
 use Rattle.adding.specs.declared.GiveError.TheVariants.{NoRoom as GiveNoRoom, BrokenWords as GiveBroken}
 use Rattle.egraph.specs.Answers.{Answer, Else, Good, SameLimits, Unless3, give_refused, id_says, head_of, ids_is, limits_stay, limits_written, lookup_says, never, nine, no_by, number_of, ok_still, pass, past, past_rest, scratch_of, scratch_still, spare_noted, spare_of, spare_stay, stop, yes_with}
+use Rattle.egraph.specs.Reads.{found_root}
 use Rattle.egraph.specs.declared.Refusal.{Refusal}
 use Rattle.egraph.specs.declared.Refusal.TheVariants.{BadHead, BadLimits, BrokenWords, NoRoom, NotRebuilt, TooFewWords, TooLong, TooManyChildren, UnknownId}
 use Rattle.holds.specs.Holds.{Holds, HoldsAt}
 use Rattle.holds.specs.HoldsLaws.{holds_in, holds_written}
 use Rattle.holds.specs.Inside.{Near}
-use Rattle.layout.specs.Head.{Fits, HeadIs, HeadOk, head_good, ok_fits}
+use Rattle.layout.specs.Head.{HeadIs, head_good}
 use Rattle.layout.specs.View.{View, hd, view}
 use Rattle.layout.specs.Written.{Noted, written}
 use Rattle.layout.specs.declared.Head.{Head}
@@ -110,49 +110,33 @@ pub lookup_on : (ws : List ℕ) (x : Node) (r : Result Head Refusal) → Gated w
 lookup_on ws x r G h e a L = gate_on ws x r G (λ k. lookup_says a ≡ no_by k) (LookupOpen ws (node_of x) a) h e L
 
 module _ (ws : List ℕ) (h : Head) (q : HeadIs (length ws) (hd ws) h) (x : Node) (p : Result Probed Broken) (P : Probes h x ws p) where
-  -- no graph has these words
-  none_has : p ≡ broken → (g : Graph) → Holds ws g → (o : Option ℕ) → kept_for g (node_of x) ≡ o → ⊥
-  none_has e g H (Some i) k = let f = (P.found g h.places i (holds_in ws h g q H) k).1 in zero_one cc
-  none_has e g H None k = let f = (P.absent g h.places (holds_in ws h g q H) k).1 in zero_one cc
-
   pub lookup_broken : p ≡ broken → LookupOpen ws (node_of x) (Err BrokenWords)
-  lookup_broken e = record { fair = λ k f _. nine k f; sound = λ g H. absurd (none_has e g H (kept_for g (node_of x)) refl) }
+  lookup_broken e = record { fair = λ k f _. nine k f; sound = λ g H. absurd (no_graph h x ws p P e g (holds_in ws h g q H) (kept_for g (node_of x)) refl) }
 
   module _ (y : Probed) (is : p ≡ Ok y) where
-    -- what was seen for a node that is kept
-    seen_kept : (g : Graph) → Holds ws g → (i : ℕ) → kept_for g (node_of x) ≡ Some i → y.seen ≡ Some (record { 0 = i })
-    seen_kept g H i k = let f = P.found g h.places i (holds_in ws h g q H) k in let z : f.0 ≡ y = let t = f.1 in cc in rw (← z) f.2
-
-    seen_none : (g : Graph) → Holds ws g → kept_for g (node_of x) ≡ None → y.seen ≡ None
-    seen_none g H k = let f = P.absent g h.places (holds_in ws h g q H) k in let z : f.0 ≡ y = let t = f.1 in cc in rw (← z) f.2
-
     pub lookup_none : y.seen ≡ None → LookupOpen ws (node_of x) (Ok None)
     unfolding lookup
     lookup_none e = record { fair = λ k f n. absurd (n (sym (ap (λ (a : Answer). a.number) f))); sound = λ g H. go g H (kept_for g (node_of x)) refl }
       where
         go : (g : Graph) → Holds ws g → (o : Option ℕ) → kept_for g (node_of x) ≡ o → yes_with [] ≡ found_as (lookup g (node_of x))
-        go g H (Some i) k = let f = seen_kept g H i k in zero_one cc
+        go g H (Some i) k = let f = hit h x ws p P y is g i (holds_in ws h g q H) k in zero_one cc
         go g H None k = rw k refl
 
     module _ (id : Id) (e : y.seen ≡ Some id) where
       -- the id that was seen is the one that is kept
       seen_is : (g : Graph) → Holds ws g → (o : Option ℕ) → kept_for g (node_of x) ≡ o → kept_for g (node_of x) ≡ Some id.0
-      seen_is g H (Some i) k = let f = seen_kept g H i k in let z : ◌≡◌ {A = Id} (record { 0 = i }) id = cc in k ∙ ap (λ (j : Id). Some j.0) z
-      seen_is g H None k = let f = seen_none g H k in zero_one cc
+      seen_is g H (Some i) k = let f = hit h x ws p P y is g i (holds_in ws h g q H) k in let z : ◌≡◌ {A = Id} (record { 0 = i }) id = cc in k ∙ ap (λ (j : Id). Some j.0) z
+      seen_is g H None k = let f = (miss h x ws p P y is g (holds_in ws h g q H) k).0 in zero_one cc
 
       module _ (f : Result ℕ Broken) (F : Finds (view h.n h.m ws).forest h.ids id.0 f) where
-        law : (g : Graph) → Holds ws g → f ≡ Ok (root g.roots id.0)
-        unfolding root
-        law g H = F.law h.classes g.roots (holds_in ws h g q H).forest
-
         pub lookup_lost : f ≡ broken → LookupOpen ws (node_of x) (Err BrokenWords)
-        lookup_lost l = record { fair = λ k s _. nine k s; sound = λ g H. let a = law g H in zero_one cc }
+        lookup_lost l = record { fair = λ k s _. nine k s; sound = λ g H. apart l (found_root ws h q id.0 f F g H) }
 
         pub lookup_found : (z : ℕ) → f ≡ Ok z → LookupOpen ws (node_of x) (Ok (Some (record { 0 = z })))
         unfolding lookup
         lookup_found z l = record {
           fair = λ k s _. absurd (never k z s);
-          sound = λ g H. let s : z ≡ root g.roots id.0 = cc (l, law g H) in rw (seen_is g H (kept_for g (node_of x)) refl, s) refl;
+          sound = λ g H. let s : z ≡ root g.roots id.0 = cc (l, found_root ws h q id.0 f F g H) in rw (seen_is g H (kept_for g (node_of x)) refl, s) refl;
         }
 
 -- ---- add
@@ -218,7 +202,7 @@ add_new g x l e = ap (λ (a : GivenId). root a.graph.roots a.id) (given_new g x 
 nine_not_6 : ◌≡◌ {A = Answer} (no_by 9) (no_by 6) → ⊥
 nine_not_6 e = omega (arith, nine 6 e)
 
-module _ (id : Graph → ℕ) (ws : List ℕ) (h : Head) (q : HeadIs (length ws) (hd ws) h) (x : Term) (ws1 : List ℕ) (u : Result Given GiveError) (U : Gives h x ws u ws1) where
+module _ (id : Graph → ℕ) (ws : List ℕ) (h : Head) (q : HeadIs (length ws) (hd ws) h) (x : Term) (ws1 : List ℕ) (u : Result Gave GiveError) (U : Gives h x ws u ws1) where
   full_in : Full (head_of ws) x → Full h x
   full_in f = subst (λ (s : Head). Full s x) (sym q.is) f
 
@@ -257,7 +241,7 @@ module _ (id : Graph → ℕ) (ws : List ℕ) (h : Head) (q : HeadIs (length ws)
   adding_refused GiveNoRoom e = adding_full e
   adding_refused GiveBroken e = adding_broken e
 
-  module _ (y : Id) (e : u ≡ Ok (Old y)) where
+  module _ (y : Id) (k : Head) (e : u ≡ Ok (Old y k)) where
     -- the id that was there is the one that is kept
     old_is : (g : Graph) (i : ℕ) → Holds ws g → kept_for g x ≡ Some i → i ≡ y.0
     old_is g i H k = let a = U.found g i (holds_in ws h g q H) k in cc
@@ -277,17 +261,18 @@ module _ (id : Graph → ℕ) (ws : List ℕ) (h : Head) (q : HeadIs (length ws)
       spare = spare_stay ws ws1 U.inside.head;
       fair = λ k s. absurd (never k v s);
       full = λ s. absurd (never 6 v s);
-      found = λ g i H k. (ap (λ (j : ℕ). yes_with (j ∷ [])) (sym (w g H (k ∙ ap Some (old_is g i H k)))), (U.old y e).1);
+      found = λ g i H m. (ap (λ (j : ℕ). yes_with (j ∷ [])) (sym (w g H (m ∙ ap Some (old_is g i H m)))), (U.old y k e).2);
       shut = λ g H k f. absurd (not_shut g H k f);
       grown = λ g H k f. absurd (not_grown g H k f);
     }
 
-    module _ (f : Result ℕ Broken) (F : Finds (view h.n h.m ws1).forest h.ids y.0 f) where
+    module _ (f : Result ℕ Broken) (F : Finds (view k.n k.m ws1).forest k.ids y.0 f) where
       find_law : (g : Graph) → Holds ws g → f ≡ Ok (root g.roots y.0)
-      unfolding root
       find_law g H =
-          let F' : Finds (view h.n h.m ws).forest h.ids y.0 f = subst (λ (l : List ℕ). Finds (view h.n h.m l).forest h.ids y.0 f) (U.old y e).1 F in
-          F'.law h.classes g.roots (holds_in ws h g q H).forest
+          let o = U.old y k e in
+          let F1 : Finds (view k.n k.m ws).forest k.ids y.0 f = subst (λ (l : List ℕ). Finds (view k.n k.m l).forest k.ids y.0 f) o.2 F in
+          let F' : Finds (view h.n h.m ws).forest h.ids y.0 f = subst (λ (s : Head). Finds (view s.n s.m ws).forest s.ids y.0 f) o.1 F1 in
+          found_root ws h q y.0 f F' g H
 
       pub adding_lost : f ≡ broken → Adding id ws x (Err BrokenWords) ws1
       adding_lost l = record {
@@ -298,28 +283,28 @@ module _ (id : Graph → ℕ) (ws : List ℕ) (h : Head) (q : HeadIs (length ws)
         spare = spare_stay ws ws1 U.inside.head;
         fair = λ k s. inl (nine k s);
         full = λ s. absurd (nine_not_6 s);
-        found = λ g i H k. let a = find_law g H in zero_one cc;
+        found = λ g i H k. apart l (find_law g H);
         shut = λ g H k s. absurd (not_shut g H k s);
         grown = λ g H k s. absurd (not_grown g H k s);
       }
 
-  pub adding_new : (k : Head) → u ≡ Ok (New k) → (ws2 : List ℕ) → Noted ws1 ws2 (written (hd ws1) k) → ((g : Graph) → Holds ws g → kept_for g x ≡ None → id g ≡ ids g)
-      → Adding id ws x (Ok (record { 0 = h.ids })) ws2
-  adding_new k e ws2 N w = record {
+  pub adding_new : (y : Id) (k : Head) → u ≡ Ok (New y k) → (ws2 : List ℕ) → Noted ws1 ws2 (written (hd ws1) k) → ((g : Graph) → Holds ws g → kept_for g x ≡ None → id g ≡ ids g)
+      → Adding id ws x (Ok y) ws2
+  adding_new y k e ws2 N w = record {
     size = N.size ∙ U.inside.size;
     rest = past_rest ws h q ws2 (ap (λ (v : View). v.rest) (N.else h.n h.m) ∙ U.inside.rest);
     scratch = scratch_still ws h q ws2 (ap (λ (v : View). v.scratch) (N.else h.n h.m) ∙ U.inside.scratch);
     limits = limits_written ws ws1 ws2 h k q N2 (ok_still N2 U.inside.size) N;
     spare = spare_noted ws ws1 ws2 k U.inside.head N;
-    fair = λ j s. absurd (never j h.ids s);
-    full = λ s. absurd (never 6 h.ids s);
+    fair = λ j s. absurd (never j y.0 s);
+    full = λ s. absurd (never 6 y.0 s);
     found = λ g i H m. let a = U.found g i (holds_in ws h g q H) m in zero_one cc;
     shut = λ g H m f. let a = U.shut g (holds_in ws h g q H) m (full_in f) in zero_one cc;
-    grown = λ g H m f. (ap (λ (j : ℕ). yes_with (j ∷ [])) ((holds_in ws h g q H).ids_are ∙ sym (w g H m)), held g H m (room_in f));
+    grown = λ g H m f. (ap (λ (j : ℕ). yes_with (j ∷ [])) ((U.new y k e).0 ∙ (holds_in ws h g q H).ids_are ∙ sym (w g H m)), held g H m (room_in f));
   }
     where
       N2 : Near (length ws) h k
-      N2 = (U.new k e).0
+      N2 = (U.new y k e).1
 
       held : (g : Graph) → Holds ws g → kept_for g x ≡ None → Room h x → Holds ws2 (add_uncanonical g x).graph
       held g H m f =
@@ -337,15 +322,11 @@ module _ (id : Graph → ℕ) (ws : List ℕ) (h : Head) (q : HeadIs (length ws)
 pub add_held : (ws : List ℕ) (h : Head) → HeadIs (length ws) (hd ws) h → (g : Graph) (x : Term) → Holds ws g → kept_for g x ≡ None → (add g x).id ≡ ids g
 add_held ws h q g x H e = let K = holds_in ws h g q H in add_new g x (K.forest.len ∙ K.ids_are) e
 
-pub adding_root : (ws : List ℕ) (h : Head) (q : HeadIs (length ws) (hd ws) h) (x : Term) (ws1 : List ℕ) (u : Result Given GiveError) (U : Gives h x ws u ws1) (y : Id) (e : u ≡ Ok (Old y))
-    (f : Result ℕ Broken) (F : Finds (view h.n h.m ws1).forest h.ids y.0 f) (z : ℕ) → f ≡ Ok z → AddOpen ws x (Ok (record { 0 = z })) ws1
-adding_root ws h q x ws1 u U y e f F z l =
-    adding_old (λ g. (add g x).id) ws h q x ws1 u U y e z
-    (λ g H k. add_old g x y.0 k ∙ root_is (l, find_law (λ g. (add g x).id) ws h q x ws1 u U y e f F g H))
+pub adding_root : (ws : List ℕ) (h : Head) (q : HeadIs (length ws) (hd ws) h) (x : Term) (ws1 : List ℕ) (u : Result Gave GiveError) (U : Gives h x ws u ws1) (y : Id) (k : Head) (e : u ≡ Ok (Old y k))
+    (f : Result ℕ Broken) (F : Finds (view k.n k.m ws1).forest k.ids y.0 f) (z : ℕ) → f ≡ Ok z → AddOpen ws x (Ok (record { 0 = z })) ws1
+adding_root ws h q x ws1 u U y k e f F z l =
+    adding_old (λ g. (add g x).id) ws h q x ws1 u U y k e z
+    (λ g H m. add_old g x y.0 m ∙ root_is (l, find_law (λ g. (add g x).id) ws h q x ws1 u U y k e f F g H))
   where
     root_is : {a b : ℕ} → (f ≡ Ok a) × (f ≡ Ok b) → b ≡ a
     root_is p = cc (p.0, p.1)
-
--- the words keep their number
-pub fits_still : {len len' : ℕ} {h : Head} → HeadOk len h → len' ≡ len → Fits len' h
-fits_still {h = h} ok e = ok_fits (subst (λ (l : ℕ). HeadOk l h) (sym e) ok)

@@ -3,11 +3,12 @@
 -- Assumes nothing.
 use Rattle.std.specs.Prelude.{Err, IsErrAnd, None, Ok, Option, Result, Some, Bool, false, true, not, ◌⊎◌, ◌≡◌, refl, ◌<◌, ◌≤◌, ℕ, drop, length, take}
 use Rattle.std.specs.Option.{ok_or}
-use Rattle.broken.specs.Words.{error_is}
+use Rattle.broken.specs.Words.{error_is, err≢ok}
 use Rattle.language.specs.declared.Id.{Id}
 use Rattle.language.specs.declared.Node.{Node}
 use mathlib.Core.List.{List, [], ◌∷◌, cons≢nil}
 use Rattle.std.proofs.Common.{inl, inr, ◌∙◌, ap, subst, sym, arith}
+use Rattle.std.proofs.lemmas.Bool.{false≢true}
 use Rattle.lists.specs.Tests.{zero_one}
 use Rattle.language.specs.Struct.{node_of}
 use Rattle.language.specs.Term.{words}
@@ -17,7 +18,7 @@ use Rattle.adding.specs.declared.GiveError.TheVariants.{NoRoom as GiveNoRoom, Br
 use Rattle.egraph.specs.declared.Refusal.{Refusal}
 use Rattle.egraph.specs.declared.Refusal.TheVariants.{BadHead, BadLimits, BrokenWords, NoRoom, NotRebuilt, TooFewWords, TooLong, TooManyChildren, UnknownId}
 use Rattle.holds.specs.Holds.{Holds, HoldsAt}
-use Rattle.holds.specs.HoldsLaws.{false≢true, holds_written}
+use Rattle.holds.specs.HoldsLaws.{holds_written}
 use Rattle.holds.specs.Inside.{Near}
 use Rattle.layout.specs.Cut.{need}
 use Rattle.layout.specs.Head.{GoodHead, HeadIs, HeadOk, HeadSays, head_good, numbers}
@@ -151,6 +152,14 @@ pub handed_on : {T : Type 0} (ws : List ℕ) (r : Result Head Refusal) → Opens
     → a ≡ Err BadHead
 handed_on ws r O q e a i = error_is a q i ∙ ap Err (O.bad q e).0
 
+-- what it then says, with nothing else promised, and with words that stay
+module _ {A X : Type 0} (values : A → List ℕ) (ws : List ℕ) (r : Result Head Refusal) (O : Opens ws r) (q : Refusal) (e : r ≡ Err q) where
+  pub head_refused : (a : Result A Refusal) → IsErrAnd a (λ x. x ≡ q) → Unless3 ws (says values a ≡ no_by 3) X
+  head_refused a i = shut ws r O q e (ap (says values) (handed_on ws r O q e a i))
+
+  pub head_refused_still : (a : Result A Refusal) → IsErrAnd a (λ x. x ≡ q) → Unless3 ws ((says values a ≡ no_by 3) × (ws ≡ ws)) X
+  head_refused_still a i = shut ws r O q e (ap (says values) (handed_on ws r O q e a i), refl)
+
 -- a flag that the code tests by its opposite
 pub not_set : (b : Bool) → not b ≡ true → b ≡ false
 not_set true e = cc
@@ -184,15 +193,12 @@ pub record ListOpen (list : Graph → List ℕ) (Whole : Head → List ℕ → T
   pub refused : (k : ℕ) → count_says r ≡ no_by k → ((k ≡ 9) ⊎ (k ≡ 8)) × (out' ≡ out)
   pub sound : (g : Graph) → Holds ws g → Lists (list g) out r out'
 
-pub words≢not : (x : ℕ) (q : Refusal) → Ok x ≡ Err q → ⊥
-words≢not x q p = zero_one cc
-
 -- the three ways out of a list, with the head h in hand; what whole words read as is for a graph that they hold its list
 module _ (list : Graph → List ℕ) (Whole : Head → List ℕ → Type 0) (reads : Head → List ℕ → List ℕ) (ws : List ℕ) (h : Head) (q : HeadIs (length ws) (hd ws) h) (out : List ℕ) where
   pub open_broken : (Whole h ws → ⊥) → ((g : Graph) → Holds ws g → Whole h ws) → ListOpen list Whole reads ws out (Err BrokenWords) out
   open_broken b w = record {
     exact = subst (λ (s : Head). ListAt (Whole s ws) (reads s ws) out (Err BrokenWords) out) q.is (stop b (λ x y. x y) (refl, refl));
-    inside = λ k p. absurd (words≢not k BrokenWords (sym p));
+    inside = λ k p. err≢ok p;
     size = refl;
     refused = λ k p. (inl (nine k p), refl);
     sound = λ g H. absurd (b (w g H));
@@ -210,7 +216,7 @@ module _ (list : Graph → List ℕ) (Whole : Head → List ℕ → Type 0) (rea
         let L : Lists (reads h ws) out (Err TooLong) out = record { long = λ _. (refl, refl); fits = λ b. absurd (omega arith) } in
         record {
           exact = told (Err TooLong) out L;
-          inside = λ k p. absurd (words≢not k TooLong (sym p));
+          inside = λ k p. err≢ok p;
           size = refl;
           refused = λ k p. (inr (sym (ap (λ (a : Answer). a.number) p)), refl);
           sound = held (Err TooLong) out L;
@@ -242,6 +248,34 @@ module _ (ws : List ℕ) (h : Head) (q : HeadIs (length ws) (hd ws) h) where
 
   pub cleaned : {N X : Type 0} → h.clean ≡ true → X → Unless7 ws N X
   cleaned e x = pass (clean_of ∙ e) (λ a b. false≢true (sym a ∙ b)) x
+
+-- the head of a clean graph as a call reads it, or why it refuses
+pub record OpensClean (ws : List ℕ) (r : Result Head Refusal) : Type 0 where
+  pub good : (h : Head) → r ≡ Ok h → HeadIs (length ws) (hd ws) h × (h.clean ≡ true)
+  pub bad : (q : Refusal) → r ≡ Err q → Unless3 ws (q ≡ BadHead) (Unless7 ws (q ≡ NotRebuilt) ⊥)
+
+-- as the head is read
+module _ (ws : List ℕ) (o : Result Head Refusal) (O : Opens ws o) where
+  pub clean_no_head : (q : Refusal) → o ≡ Err q → OpensClean ws (Err BadHead)
+  clean_no_head q e = record { good = λ h p. err≢ok p; bad = λ x p. let z : x ≡ BadHead = cc in shut ws o O q e z }
+
+  module _ (h : Head) (e : o ≡ Ok h) where
+    pub clean_not_rebuilt : h.clean ≡ false → OpensClean ws (Err NotRebuilt)
+    clean_not_rebuilt f = record { good = λ k p. err≢ok p; bad = λ x p. let z : x ≡ NotRebuilt = cc in opened ws o O h e (λ q. unclean ws h q f z) }
+
+    pub clean_read : h.clean ≡ true → OpensClean ws (Ok h)
+    clean_read f = record { good = λ k p. let z : h ≡ k = cc in rw (← z) (O.good h e, f); bad = λ x p. err≢ok (sym p) }
+
+-- the ladder of a call that begins with it: refused, No of the refusal's number; or on it goes
+module _ (ws : List ℕ) (r : Result Head Refusal) (O : OpensClean ws r) where
+  pub clean_shut : {X : Type 0} (No : ℕ → Type 0) (q : Refusal) → r ≡ Err q → No (number_of q) → Unless3 ws (No 3) (Unless7 ws (No 7) X)
+  clean_shut No q e n =
+      let b = O.bad q e in
+      let is : (p : Refusal) → q ≡ p → No (number_of p) = λ p z. subst (λ (x : Refusal). No (number_of x)) z n in
+      record { no = λ u. is BadHead (b.no u); on = λ g. let c = b.on g in record { no = λ f. is NotRebuilt (c.no f); on = λ t. absurd (c.on t) } }
+
+  pub clean_opened : {M N X : Type 0} (h : Head) → r ≡ Ok h → X → Unless3 ws M (Unless7 ws N X)
+  clean_opened h e x = let g = O.good h e in pass (head_good g.0) (λ b k. b k) (cleaned ws h g.0 g.1 x)
 
 pub ids_is : {len : ℕ} {l : List ℕ} {h : Head} → HeadIs len l h → h.ids ≡ (numbers l).ids
 ids_is p = ap (λ (s : Head). s.ids) p.is

@@ -2,11 +2,10 @@
 -- says, and for a list 8; else the answer is what the words read as. 9 never comes on words that hold a graph. A list that is refused leaves the slice lent for it as it was.
 -- Assumes nothing.
 use Rattle.egraph.specs.declared.Refusal.{Refusal}
-use Rattle.std.specs.Prelude.{Err, None, Ok, Option, Result, Some, Bool, false, true, List, [], ◌∷◌, ◌≡◌, refl, ◌<◌, ◌≤◌, ℕ, length}
+use Rattle.std.specs.Prelude.{Err, Ok, Result, false, true, List, [], ◌∷◌, ◌≡◌, refl, ◌<◌, ◌≤◌, ℕ, length}
 use Rattle.broken.specs.declared.Broken.{Broken}
-use Rattle.broken.specs.Words.{broken}
+use Rattle.broken.specs.Words.{broken, err≢ok}
 use Rattle.std.proofs.Common.{◌∙◌, ap, subst, sym, arith}
-use Rattle.lists.specs.Tests.{Says}
 use Rattle.steps.specs.Classes.{classes, classes_for_op, total_number_of_nodes}
 use Rattle.steps.specs.Graph.{Graph}
 use Rattle.eclass.specs.Checks.{Totals, UnbrokenIn, unbroken}
@@ -15,8 +14,8 @@ use Rattle.eclass.specs.ClassHeld.{total_few, total_is}
 use Rattle.eclass.specs.Lists.{classes_are, classes_in}
 use Rattle.eclass.specs.Ops.{ops_are, ops_in}
 use Rattle.spelling.specs.Pieces.{Wrote, wrote_back, wrote_front}
-use Rattle.egraph.specs.Answers.{Opens, Else, ListOpen, Lists, Unless3, Unless7, cleaned, count_says, head_of, held_clean, never, nine, no_by, open_broken, open_long, open_written, opened, pass, shut, stop, unclean, words≢not, yes_with}
-use Rattle.egraph.specs.declared.Refusal.TheVariants.{BadHead, BrokenWords, NotRebuilt, TooLong}
+use Rattle.egraph.specs.Answers.{Else, ListOpen, Lists, OpensClean, Unless3, Unless7, clean_opened, clean_shut, count_says, head_of, held_clean, never, nine, no_by, number_of, open_broken, open_long, open_written, pass, stop, yes_with}
+use Rattle.egraph.specs.declared.Refusal.TheVariants.{BrokenWords, TooLong}
 use Rattle.holds.specs.Holds.{Holds}
 use Rattle.holds.specs.HoldsLaws.{holds_in}
 use Rattle.layout.specs.Head.{HeadIs}
@@ -47,6 +46,9 @@ TotalSays ws r =
 pub total_held : (ws : List ℕ) (g : Graph) → Holds ws g → (r : Result ℕ Refusal) → TotalSays ws r
     → Else (g.clean ≡ false) (count_says r ≡ no_by 7) (g.clean ≡ true) (count_says r ≡ yes_with (total_number_of_nodes g ∷ []))
 total_held ws g H r s = let t = s.on H.good in record { no = λ e. t.no (held_clean H ∙ e); on = λ e. (t.on (held_clean H ∙ e)).sound g H }
+
+pub total_shut : (ws : List ℕ) (r : Result Head Refusal) → OpensClean ws r → (q : Refusal) → r ≡ Err q → TotalSays ws (Err q)
+total_shut ws r O q e = clean_shut ws r O (λ (k : ℕ). no_by (number_of q) ≡ no_by k) q e refl
 
 over : (x y : ℕ) → x < y → y ≤ x → ⊥
 over x y a b = omega arith
@@ -100,21 +102,18 @@ ClassesOpen = ListOpen classes UnbrokenIn classes_in
 abbrev pub ClassesSays : List ℕ → List ℕ → Result ℕ Refusal → List ℕ → Type 0
 ClassesSays = ListSays classes classes_in
 
--- as the head is read
-module _ (list : Graph → List ℕ) (reads : Head → List ℕ → List ℕ) (ws out : List ℕ) (r : Result Head Refusal) (O : Opens ws r) where
-  pub list_shut : (q : Refusal) → r ≡ Err q → ListSays list reads ws out (Err BadHead) out
-  list_shut q e = record { inside = λ k p. absurd (words≢not k BadHead (sym p)); says = shut ws r O q e (refl, refl) }
+-- as the head of a clean graph is read
+module _ (list : Graph → List ℕ) (reads : Head → List ℕ → List ℕ) (ws out : List ℕ) (r : Result Head Refusal) (O : OpensClean ws r) where
+  pub list_shut : (q : Refusal) → r ≡ Err q → ListSays list reads ws out (Err q) out
+  list_shut q e = record { inside = λ k p. err≢ok p; says = clean_shut ws r O (λ (k : ℕ). (no_by (number_of q) ≡ no_by k) × (out ≡ out)) q e (refl, refl) }
 
-  module _ (h : Head) (e : r ≡ Ok h) where
-    pub list_unclean : h.clean ≡ false → ListSays list reads ws out (Err NotRebuilt) out
-    list_unclean f = record { inside = λ k p. absurd (words≢not k NotRebuilt (sym p)); says = opened ws r O h e (λ q. unclean ws h q f (refl, refl)) }
-
-    pub list_opened : h.clean ≡ true → (a : Result ℕ Refusal) (out' : List ℕ) → ListOpen list UnbrokenIn reads ws out a out' → ListSays list reads ws out a out'
-    list_opened f a out' o = record { inside = o.inside; says = opened ws r O h e (λ q. cleaned ws h q f o) }
+  pub list_opened : (h : Head) → r ≡ Ok h → (a : Result ℕ Refusal) (out' : List ℕ) → ListOpen list UnbrokenIn reads ws out a out'
+      → ListSays list reads ws out a out'
+  list_opened h e a out' o = record { inside = o.inside; says = clean_opened ws r O h e o }
 
 module _ (list : Graph → List ℕ) (reads : Head → List ℕ → List ℕ) (ws : List ℕ) (h : Head) (q : HeadIs (length ws) (hd ws) h) (c : h.clean ≡ true) (out : List ℕ) where
-  pub list_broken : (b : Bool) → Says b (UnbrokenIn h ws) → b ≡ false → ListOpen list UnbrokenIn reads ws out (Err BrokenWords) out
-  list_broken b s e = open_broken list UnbrokenIn reads ws h q out (s.fails e) (λ g H. unbroken (holds_in ws h g q H) (its_clean ws h q c g H))
+  pub list_broken : (UnbrokenIn h ws → ⊥) → ListOpen list UnbrokenIn reads ws out (Err BrokenWords) out
+  list_broken never = open_broken list UnbrokenIn reads ws h q out never (λ g H. unbroken (holds_in ws h g q H) (its_clean ws h q c g H))
 
   -- the words are whole; what they read as is for a graph that they hold its list, and k is how long it is
   module _ (u : UnbrokenIn h ws) (is : (g : Graph) → Holds ws g → reads h ws ≡ list g) (k : ℕ) (e : k ≡ length (reads h ws)) where

@@ -4,14 +4,13 @@
 -- Assumes nothing.
 use Rattle.std.specs.Prelude.{Err, Ok, Result, true, List, map, ◌≢◌, ◌≡◌, refl, ◌*◌, ◌+◌, ◌-◌, ◌<◌, ◌≤◌, suc, ℕ, length, replicate}
 use Rattle.broken.specs.declared.Broken.{Broken}
-use Rattle.broken.specs.Words.{broken}
+use Rattle.broken.specs.Words.{broken, err≢ok}
 use Rattle.std.proofs.Common.{◌∙◌, ap, subst, sym, arith}
 use Rattle.std.proofs.Math.ListN.{get_or-map, length-map}
 use Rattle.lists.specs.Members.{Mem, mem_at}
 use Rattle.lists.specs.Reads.{at, get_or_any, get_or_map_lt}
 use Rattle.lists.specs.Tests.{zero_one}
-use Rattle.language.specs.Struct.{node_of}
-use Rattle.language.specs.Term.{Term, places, term_at}
+use Rattle.language.specs.Term.{Term, term_at}
 use Rattle.language.specs.declared.Id.{Id}
 use Rattle.language.specs.declared.Node.{Node}
 use Rattle.steps.specs.Classes.{class_nodes, class_roots}
@@ -199,25 +198,22 @@ pub record StoodAt (N left id : ℕ) (r : Result Cursor Broken) : Type 0 where
   pub next : (cur : Cursor) → r ≡ Ok cur → 0 < left → (cur.id.0 ≡ id) × (id < N)
   pub lost : r ≡ broken → (0 < left) × (N ≤ id)
 
-broken≢at : {A : Type 0} {cur : Cursor} → broken ≡ Ok cur → A
-broken≢at e = zero_one cc
-
 module _ (N left : ℕ) (x : Id) where
   pub stood_end : left ≡ 0 → StoodAt N left x.0 (Ok (record { left = left; id = x }))
   stood_end z = record {
     count = λ cur e. let p : record { left = left; id = x } ≡ cur = cc in ap (λ (y : Cursor). y.left) (sym p);
     next = λ cur e s. absurd (omega arith);
-    lost = λ e. broken≢at (sym e);
+    lost = λ e. err≢ok (sym e);
   }
 
   pub stood_lost : left ≢ 0 → N ≤ x.0 → StoodAt N left x.0 broken
-  stood_lost s off = record { count = λ cur e. broken≢at e; next = λ cur e. broken≢at e; lost = λ _. (omega arith, off) }
+  stood_lost s off = record { count = λ cur e. err≢ok e; next = λ cur e. err≢ok e; lost = λ _. (omega arith, off) }
 
   pub stood_next : x.0 < N → StoodAt N left x.0 (Ok (record { left = left; id = x }))
   stood_next l = record {
     count = λ cur e. let p : record { left = left; id = x } ≡ cur = cc in ap (λ (y : Cursor). y.left) (sym p);
     next = λ cur e s. let p : record { left = left; id = x } ≡ cur = cc in (ap (λ (y : Cursor). y.id.0) (sym p), l);
-    lost = λ e. broken≢at (sym e);
+    lost = λ e. err≢ok (sym e);
   }
 
 -- a walk over cells, as a cursor has it
@@ -247,10 +243,10 @@ module _ (h : Head) (v : View) (c left id : ℕ) (r : Result Cursor Broken) (T :
 module _ (h : Head) (v : View) (c : ℕ) (low : c < h.n) (k : ℕ) (K : Word v.members (c + h.n + h.n) k) where
   pub nodes_long : h.n < k → ClassNodes h v c broken
   nodes_long l = record {
-    few = λ cur e. broken≢at e;
-    known = λ cur e. broken≢at e;
-    stands = λ cur e. broken≢at e;
-    all = λ cur e. broken≢at e;
+    few = λ cur e. err≢ok e;
+    known = λ cur e. err≢ok e;
+    stands = λ cur e. err≢ok e;
+    all = λ cur e. err≢ok e;
     sound = λ _ g C. length_low v.members h.n h.n c low (rw (← K.exact) l) C.held.members.lists C.held.members.pool;
   }
 

@@ -1,9 +1,10 @@
 -- What `id_to_node` and `nodes` promise. On any words 3, 4 and 9 come exactly when document 01 says, and for a list 8; else the answer is what the rows read as. 9 never
 -- comes on words that hold a graph. A list that is refused leaves the slice lent for it as it was.
 -- Assumes nothing.
-use Rattle.std.specs.Prelude.{Err, Ok, Result, List, [], ◌≡◌, refl, ◌+◌, ◌<◌, ◌≤◌, ℕ, length}
+use Rattle.std.specs.Prelude.{Err, Ok, Option, Result, List, ◌≡◌, refl, ◌+◌, ◌<◌, ◌≤◌, ℕ, length}
+use Rattle.std.specs.Option.{ok_or}
 use Rattle.broken.specs.declared.Broken.{Broken}
-use Rattle.broken.specs.Words.{broken}
+use Rattle.broken.specs.Words.{broken, err≢ok}
 use Rattle.language.specs.declared.Node.{Node}
 use Rattle.std.proofs.Common.{◌∙◌, ap, subst, sym, arith}
 use Rattle.std.proofs.Math.Decide.{ℕ_discrete}
@@ -12,7 +13,7 @@ use Rattle.language.specs.Struct.{node_of}
 use Rattle.language.specs.Term.{Term, places, spell, words}
 use Rattle.steps.specs.Classes.{nodes}
 use Rattle.steps.specs.Graph.{Graph, node}
-use Rattle.egraph.specs.Answers.{Else, ListOpen, Unless3, Unless9, head_of, count_says, never, nine, no_by, node_says, open_broken, open_long, open_written, pass, stop, words≢not, yes_with}
+use Rattle.egraph.specs.Answers.{Else, ListOpen, Unless3, Unless9, head_of, count_says, never, nine, no_by, node_says, open_broken, open_long, open_written, pass, stop, yes_with}
 use Rattle.egraph.specs.Stored.{long_more, stored, stored_is}
 use Rattle.egraph.specs.declared.Refusal.{Refusal}
 use Rattle.egraph.specs.declared.Refusal.TheVariants.{BrokenWords, TooLong}
@@ -24,6 +25,7 @@ use Rattle.layout.specs.declared.Head.{Head}
 use Rattle.rows.specs.Determined.{sane}
 use Rattle.rows.specs.Promise.{Given, IsNodeOf}
 use Rattle.rows.specs.Read.{Sane, given_read}
+use Rattle.spelling.specs.Alone.{SpellsOne}
 use Rattle.spelling.specs.Listed.{Listed}
 
 -- ---- one node
@@ -51,6 +53,16 @@ pub record NodeSays (ws : List ℕ) (i : ℕ) (r : Result Node Refusal) : Type 0
       Unless3 ws (node_says r ≡ no_by 3)
       (Else ((head_of ws).ids ≤ i) (node_says r ≡ no_by 4) (i < (head_of ws).ids)
       (NodeOpen ws i r))
+
+-- that node as words at the start of a list; refused as `id_to_node` refuses, with the list as it was, and by 8 where the list is too short
+abbrev pub NodeIn : Result Node Refusal → List ℕ → Result ℕ Refusal → List ℕ → Type 0
+NodeIn (Ok x) list r list' = (s : Option ℕ) × SpellsOne list x s list' × (r ≡ ok_or s TooLong)
+NodeIn (Err q) list r list' = (r ≡ Err q) × (list' ≡ list)
+
+pub record NodeSpelled (ws : List ℕ) (i : ℕ) (list : List ℕ) (r : Result ℕ Refusal) (list' : List ℕ) : Type 0 where
+  pub answer : Result Node Refusal
+  pub made : NodeSays ws i answer
+  pub spelled : NodeIn answer list r list'
 
 module _ (ws : List ℕ) (h : Head) (q : HeadIs (length ws) (hd ws) h) (i : ℕ) (f : Result Node Broken) (G : Given (view h.n h.m ws).rows h.n h.m i f) (hi : i < h.ids) where
   -- what the rows answer on words that hold a graph
@@ -106,9 +118,9 @@ pub record Measured (rs : List ℕ) (n m k : ℕ) (r : Result ℕ Refusal) : Typ
 module _ (rs : List ℕ) (n m i : ℕ) (f : Result Node Broken) (G : Given rs n m i f) where
   pub row_broken : f ≡ broken → RowWords rs n m i (Err BrokenWords)
   row_broken e = record {
-    whole = λ x p. absurd (words≢not x BrokenWords (sym p));
-    few = λ x p. absurd (words≢not x BrokenWords (sym p));
-    sane = λ x p. absurd (words≢not x BrokenWords (sym p));
+    whole = λ x p. err≢ok p;
+    few = λ x p. err≢ok p;
+    sane = λ x p. err≢ok p;
     broken = λ q p. (cc, G.broken e);
   }
 
@@ -117,7 +129,7 @@ module _ (rs : List ℕ) (n m i : ℕ) (f : Result Node Broken) (G : Given rs n 
     whole = λ y p. let s : y ≡ k = cc in s ∙ rw (← (G.found x d).1.exact) e.0;
     few = λ y p. let s : y ≡ k = cc in omega (arith, e.1, (G.found x d).1.few);
     sane = λ y p. (G.found x d).0;
-    broken = λ q p. absurd (words≢not k q p);
+    broken = λ q p. err≢ok (sym p);
   }
 
 -- one row more, a broken row, and the end
@@ -138,8 +150,8 @@ sane_more rs n m i x r w e f j h = go (ℕ_discrete j i)
 module _ (rs : List ℕ) (n m k : ℕ) where
   pub measure_broken : (i : ℕ) → i < k → (r : Result ℕ Refusal) (q : Refusal) → RowWords rs n m i r → r ≡ Err q → Measured rs n m k (Err q)
   measure_broken i h r q w e = record {
-    whole = λ x p. absurd (words≢not x q (sym p));
-    sane = λ x p. absurd (words≢not x q (sym p));
+    whole = λ x p. err≢ok p;
+    sane = λ x p. err≢ok p;
     broken = λ p s. let t : q ≡ p = cc in (sym t ∙ (w.broken q e).0, λ a. (w.broken q e).1 (a i h));
   }
 
@@ -147,7 +159,7 @@ module _ (rs : List ℕ) (n m k : ℕ) where
   measure_whole x e f = record {
     whole = λ y p. let t : y ≡ x = cc in t ∙ e;
     sane = λ y p. f;
-    broken = λ q p. absurd (words≢not x q p);
+    broken = λ q p. err≢ok (sym p);
   }
 
 module _ (ws : List ℕ) (h : Head) (q : HeadIs (length ws) (hd ws) h) (out : List ℕ) where

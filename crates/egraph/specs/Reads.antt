@@ -3,12 +3,11 @@
 -- Assumes nothing.
 use Rattle.egraph.specs.declared.Refusal.{Refusal}
 use Rattle.language.specs.declared.Id.{Id}
-use Rattle.std.specs.Prelude.{Err, Ok, Result, Bool, false, true, List, [], ◌∷◌, ◌≢◌, ◌≡◌, refl, ◌<◌, ◌≤◌, ℕ, eqb, length}
+use Rattle.std.specs.Prelude.{Err, Ok, Result, Bool, List, [], ◌∷◌, ◌≡◌, ◌<◌, ◌≤◌, ℕ, eqb, length}
 use Rattle.broken.specs.declared.Broken.{Broken}
-use Rattle.broken.specs.Words.{broken}
-use Rattle.std.proofs.Common.{◌∙◌, sym, eq-eqb, ne_eqb}
+use Rattle.broken.specs.Words.{apart, broken}
+use Rattle.std.proofs.Common.{◌∙◌, sym}
 use Rattle.std.proofs.Math.Path.{ap}
-use Rattle.lists.specs.Tests.{zero_one}
 use Rattle.steps.specs.Classes.{number_of_classes}
 use Rattle.steps.specs.Graph.{Graph, ids, root}
 use Rattle.egraph.specs.Answers.{Answer, Else, Unless3, count_says, id_says, flag, flag_says, head_of, never, nine, no_by, yes_with}
@@ -44,27 +43,25 @@ FindSays ws i r =
     (Else ((head_of ws).ids ≤ i) (id_says r ≡ no_by 4) (i < (head_of ws).ids)
     (FindOpen ws i r))
 
-module _ (ws : List ℕ) (h : Head) (q : HeadIs (length ws) (hd ws) h) (i : ℕ) (r : Result ℕ Broken) (F : Finds (view h.n h.m ws).forest h.ids i r) (hi : i < h.ids) where
-  -- what the forest answers on words that hold a graph
-  law : (g : Graph) → Holds ws g → r ≡ Ok (root g.roots i)
-  unfolding root
-  law g H = F.law h.classes g.roots (holds_in ws h g q H).forest
+-- what the forest answers on words that hold a graph
+pub found_root : (ws : List ℕ) (h : Head) → HeadIs (length ws) (hd ws) h → (i : ℕ) (r : Result ℕ Broken) → Finds (view h.n h.m ws).forest h.ids i r
+    → (g : Graph) → Holds ws g → r ≡ Ok (root g.roots i)
+unfolding root
+found_root ws h q i r F g H = F.law h.classes g.roots (holds_in ws h g q H).forest
 
+module _ (ws : List ℕ) (h : Head) (q : HeadIs (length ws) (hd ws) h) (i : ℕ) (r : Result ℕ Broken) (F : Finds (view h.n h.m ws).forest h.ids i r) (hi : i < h.ids) where
   -- and on any words
   chained : r ≡ chain_in (head_of ws) ws i
   chained = F.exact ∙ ap (λ (s : Head). chain_in s ws i) q.is
 
   pub find_lost : r ≡ broken → FindOpen ws i (Err BrokenWords)
-  find_lost e = record { exact = ap chain_says (sym e ∙ chained); fair = nine; sound = λ g H. absurd (apart (sym e ∙ law g H)) }
-    where
-      apart : {x : ℕ} → broken ≡ Ok x → ⊥
-      apart p = zero_one cc
+  find_lost e = record { exact = ap chain_says (sym e ∙ chained); fair = nine; sound = λ g H. apart e (found_root ws h q i r F g H) }
 
   pub find_root : (x : ℕ) → r ≡ Ok x → FindOpen ws i (Ok (record { 0 = x }))
   find_root x e = record {
     exact = ap chain_says (sym e ∙ chained);
     fair = λ k p. absurd (never k x p);
-    sound = λ g H. let s : x ≡ root g.roots i = cc (e, law g H) in ap (λ (y : ℕ). yes_with (y ∷ [])) s;
+    sound = λ g H. let s : x ≡ root g.roots i = cc (e, found_root ws h q i r F g H) in ap (λ (y : ℕ). yes_with (y ∷ [])) s;
   }
 
 -- ---- counts and flags, which stand in the head

@@ -23,8 +23,7 @@ use Rattle.layout.specs.Written.{Noted, written}
 use Rattle.layout.specs.declared.Head.{Head}
 use Rattle.rebuilding.specs.Rebuilding
 use Rattle.rebuilding.specs.Rebuilding.{Rebuilt}
-use Rattle.taking.specs.Drain.{Startable}
-use Rattle.taking.specs.declared.Drained.{Drained}
+use Rattle.taking.specs.Drain.{DrainedTo, Startable}
 use Rattle.uniting.specs.Near.{NearIds}
 
 -- z is what a rebuild of g leaves, with y yes answers and t entries taken: there is one such outcome (`ends` and `one_outcome` of closure)
@@ -51,7 +50,7 @@ startable {us} {g} M = record { good = made_good M; keyed = made_keyed M; soft =
 
 -- ---- how the returns of the code stand
 
-module _ (ws : List ℕ) (h : Head) (q : HeadIs (length ws) (hd ws) h) (ws1 : List ℕ) (d : Result Drained Broken) (R : Rebuilding.RebuildSays h ws d ws1) where
+module _ (ws : List ℕ) (h : Head) (q : HeadIs (length ws) (hd ws) h) (ws1 : List ℕ) (d : Result DrainedTo Broken) (R : Rebuilding.RebuildSays h ws d ws1) where
   told : (g : Graph) (us : List (ℕ × ℕ)) → Holds ws g → Made us g → Rebuilt h.places g (view h.n h.m ws1) d
   told g us H M = R.sound g h.places us (holds_in ws h g q H) (startable M)
 
@@ -68,29 +67,29 @@ module _ (ws : List ℕ) (h : Head) (q : HeadIs (length ws) (hd ws) h) (ws1 : Li
   }
 
   -- the head written back
-  module _ (a : Drained) (e : d ≡ Ok a) where
+  module _ (a : DrainedTo) (e : d ≡ Ok a) where
     abbrev k : Head
     k = a.head
 
-    pub rebuild_near : NearIds (length ws) h a.head
-    rebuild_near = R.range a e
+    near : NearIds (length ws) h a.head
+    near = R.range a e
 
     pub rebuild_done : (ws2 : List ℕ) → Noted ws1 ws2 (written (hd ws1) a.head) → RebuildOpen ws (Ok a.yes) ws2
     rebuild_done ws2 N = record {
       size = N.size ∙ R.inside.size;
       rest = past_rest ws h q ws2 (ap (λ (v : View). v.rest) (N.else h.n h.m) ∙ R.inside.rest);
       scratch = scratch_still ws h q ws2 (ap (λ (v : View). v.scratch) (N.else h.n h.m) ∙ R.inside.scratch);
-      limits = limits_written ws ws1 ws2 h k q rebuild_near.near (ok_still rebuild_near.near R.inside.size) N;
-      counts = counts_written ws ws1 ws2 h k q rebuild_near N;
+      limits = limits_written ws ws1 ws2 h k q near.near (ok_still near.near R.inside.size) N;
+      counts = counts_written ws ws1 ws2 h k q near N;
       spare = spare_noted ws ws1 ws2 k R.inside.head N;
       fair = λ x p. absurd (never x a.yes p);
       sound = λ g us H M y t z B.
           let b = told g us H M in
           let p = sym e ∙ b.answer in
-          let same : ◌≡◌ {A = Drained} a (record { head = b.head; yes = b.yeses; taken = b.entries }) = cc in
-          let ek : b.head ≡ k = ap (λ (x : Drained). x.head) (sym same) in
-          let ey : a.yes ≡ b.yeses = ap (λ (x : Drained). x.yes) same in
+          let same : ◌≡◌ {A = DrainedTo} a (record { head = b.head; yes = b.yeses; taken = b.entries }) = cc in
+          let ek : b.head ≡ k = ap (λ (x : DrainedTo). x.head) (sym same) in
+          let ey : a.yes ≡ b.yeses = ap (λ (x : DrainedTo). x.yes) same in
           let o = one_outcome b.rebuild B in
           let K = subst (λ (s : Head). HoldsAt s h.places (view h.n h.m ws1) b.graph) ek b.holds in
-          (ap (λ (x : ℕ). yes_with (x ∷ [])) (ey ∙ o.0), written_back ws ws1 ws2 h k R.inside.size rebuild_near N z (subst (λ (x : Graph). HoldsAt k h.places (view h.n h.m ws1) x) o.2 K));
+          (ap (λ (x : ℕ). yes_with (x ∷ [])) (ey ∙ o.0), written_back ws ws1 ws2 h k R.inside.size near N z (subst (λ (x : Graph). HoldsAt k h.places (view h.n h.m ws1) x) o.2 K));
     }

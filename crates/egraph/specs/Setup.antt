@@ -1,8 +1,9 @@
 -- What `setup` promises: 1 and 2 exactly when document 01 says, with nothing changed; else words that hold the fresh graph.
 -- Assumes nothing.
 use Rattle.egraph.specs.declared.Refusal.{Refusal}
-use Rattle.std.specs.Prelude.{Err, Ok, Result, false, true, List, [], ◌≡◌, refl, ◌*◌, ◌<◌, ◌≤◌, ℕ, drop, length}
+use Rattle.std.specs.Prelude.{Err, Ok, Result, List, [], ◌≡◌, refl, ◌*◌, ◌<◌, ◌≤◌, ℕ, drop, length}
 use Rattle.std.proofs.Common.{◌∙◌, ap, subst, sym}
+use Rattle.std.proofs.lemmas.Bool.{false≢true}
 use native.Mathlib.Omega.{arith}
 use Rattle.std.proofs.Math.Dec.{T}
 use Rattle.std.proofs.Math.ListN.{replicate}
@@ -14,7 +15,7 @@ use Rattle.cells.specs.Rows.{fits}
 use Rattle.egraph.specs.Answers.{Else, no_by, pass, setup_says, stop, yes_with}
 use Rattle.egraph.specs.declared.Refusal.TheVariants.{BadLimits, TooFewWords}
 use Rattle.holds.specs.Holds.{Holds, HoldsAt}
-use Rattle.holds.specs.HoldsLaws.{false≢true, holds_out}
+use Rattle.holds.specs.HoldsLaws.{holds_out}
 use Rattle.holds.specs.MembersLaws.{members_fresh}
 use Rattle.holds.specs.ParentsLaws.{parents_fresh}
 use Rattle.layout.specs.Cut.{members, need, rows, scratch, table, uses}

@@ -2,11 +2,10 @@
 -- left is 9, which never comes on words that hold a graph.
 -- Assumes nothing.
 use Rattle.egraph.specs.declared.Refusal.{Refusal}
-use Rattle.std.specs.Prelude.{Err, Ok, Result, Bool, false, true, List, [], ◌∷◌, ◌⊎◌, ◌≡◌, refl, ◌<◌, ◌≤◌, ℕ, length}
+use Rattle.std.specs.Prelude.{Err, Ok, Result, Bool, false, true, List, ◌⊎◌, ◌≡◌, ◌<◌, ◌≤◌, ℕ, length}
 use Rattle.broken.specs.declared.Broken.{Broken}
-use Rattle.broken.specs.Words.{broken}
+use Rattle.broken.specs.Words.{apart, broken}
 use Rattle.std.proofs.Common.{inl, inr, ◌∙◌, ap, sym, arith}
-use Rattle.lists.specs.Tests.{zero_one}
 use Rattle.steps.specs.Graph.{Graph}
 use Rattle.steps.specs.Machine.{union}
 use Rattle.egraph.specs.Answers.{Else, SameCounts, SameLimits, Unless3, counts_stay, counts_written, flag, head_of, limits_stay, limits_written, never, nine, no_by, ok_still, past, past_rest, scratch_of, scratch_still, spare_noted, spare_of, spare_stay, flag_says, written_back, yes_with}
@@ -18,8 +17,7 @@ use Rattle.layout.specs.View.{View, hd, view}
 use Rattle.layout.specs.Written.{Noted, written}
 use Rattle.layout.specs.declared.Head.{Head}
 use Rattle.uniting.specs.Near.{NearIds}
-use Rattle.uniting.specs.Says.{UniteSays, united}
-use Rattle.uniting.specs.declared.United.{United}
+use Rattle.uniting.specs.Says.{UniteSays, United, answered}
 
 pub record UnionOpen (ws : List ℕ) (i j : ℕ) (r : Result Bool Refusal) (ws' : List ℕ) : Type 0 where
   pub size : length ws' ≡ length ws
@@ -54,14 +52,14 @@ module _ (ws : List ℕ) (h : Head) (q : HeadIs (length ws) (hd ws) h) (i j : �
     counts = counts_stay ws ws1 U.inside.head;
     spare = spare_stay ws ws1 U.inside.head;
     fair = nine;
-    sound = λ g H. let s = U.sound g h.places (holds_in ws h g q H) in absurd (lost (sym e ∙ s.1));
+    sound = λ g H. let s = U.sound g h.places (holds_in ws h g q H) in apart e s.1;
   }
-    where
-      lost : {y : United} → broken ≡ Ok y → ⊥
-      lost p = zero_one cc
 
   -- the head written back
-  module _ (k : Head) (N2 : NearIds (length ws) h k) (ws2 : List ℕ) (N : Noted ws1 ws2 (written (hd ws1) k)) where
+  module _ (b : Bool) (k : Head) (e : u ≡ Ok (answered b k)) (ws2 : List ℕ) (N : Noted ws1 ws2 (written (hd ws1) k)) where
+    N2 : NearIds (length ws) h k
+    N2 = U.range (answered b k) e
+
     size2 : length ws2 ≡ length ws
     size2 = N.size ∙ U.inside.size
 
@@ -74,8 +72,8 @@ module _ (ws : List ℕ) (h : Head) (q : HeadIs (length ws) (hd ws) h) (i j : �
     held : (g : Graph) → HoldsAt k h.places (view h.n h.m ws1) g → Holds ws2 g
     held g H = written_back ws ws1 ws2 h k U.inside.size N2 N g H
 
-    pub union_done : (b : Bool) → u ≡ Ok (united b k) → UnionOpen ws i j (Ok b) ws2
-    union_done b e = record {
+    pub union_done : UnionOpen ws i j (Ok b) ws2
+    union_done = record {
       size = size2;
       rest = rest2;
       scratch = scratch2;
@@ -86,7 +84,7 @@ module _ (ws : List ℕ) (h : Head) (q : HeadIs (length ws) (hd ws) h) (i j : �
       sound = λ g H.
           let s = U.sound g h.places (holds_in ws h g q H) in
           let t = s.1 in
-          let same : united b k ≡ united (union g i j).answer s.0 = cc in
+          let same : answered b k ≡ answered (union g i j).answer s.0 = cc in
           let d : s.0 ≡ k = ap (λ (y : United). y.head) (sym same) in
           (ap (λ (y : United). yes_with (flag y.joined)) same, held (union g i j).graph (rw d at s.2));
     }

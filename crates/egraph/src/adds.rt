@@ -3,14 +3,15 @@ ghost use Rattle.std.specs.Prelude.{◌≤◌, length};
 ghost use Rattle.language.specs.Struct.{node_of};
 ghost use Rattle.language.specs.Term.{places};
 ghost use Rattle.layout.specs.View.{hd};
-ghost use Rattle.layout.specs.Head.{HeadIs};
+ghost use Rattle.layout.specs.Seen.{HeadStands};
+ghost use Rattle.layout.specs.Did.{SameLoan, HeadStood};
 ghost use Rattle.adding.specs.Says.{Known};
 ghost use Rattle.egraph.specs.Adds.{Gated, LookupOpen, LookupSays, UncanonicalOpen, UncanonicalSays, AddOpen, AddSays};
 
 use super::{Refusal, read_head};
 use adding::Given;
 use language::{Id, Node};
-use layout::Head;
+use layout::{Graph, GraphMut, Head};
 
 // What these calls refuse before they look at the graph.
 fn enter(ws: &[u32], node: Node) -> Result<Head, Refusal>
@@ -26,16 +27,16 @@ fn enter(ws: &[u32], node: Node) -> Result<Head, Refusal>
     Ok(h)
 }
 
-fn lookup_open(ws: &[u32], h: Head, node: Node) -> Result<Option<Id>, Refusal>
-    requires head_is { HeadIs (length ws.now) (hd ws.now) h }
-    requires count_le_places { (node.count ≤ places) × Known (node_of node) h.ids }
-    ensures { LookupOpen ws.now (node_of node) result }
+fn lookup_open(g: &Graph<'_>, node: Node) -> Result<Option<Id>, Refusal>
+    requires head_stands { HeadStands g.now }
+    requires count_le_places { (node.count ≤ places) × Known (node_of node) g.now.h.ids }
+    ensures { LookupOpen g.now.ws.now (node_of node) result }
 {
-    let probed = adding::probe(ws, h, node)?;
+    let probed = adding::probe(g, node)?;
     let Some(id) = probed.seen else {
         return Ok(None);
     };
-    let root = parts::on_forest::find(ws, h, id)?;
+    let root = parts::on_forest::find(g, id)?;
     Ok(Some(root))
 }
 
@@ -44,19 +45,20 @@ pub fn lookup(ws: &[u32], node: Node) -> Result<Option<Id>, Refusal>
     ensures { LookupSays ws.now node result }
 {
     let h = enter(ws, node)?;
-    lookup_open(ws, h, node)
+    lookup_open(&Graph { ws, h }, node)
 }
 
-fn uncanonical_open(ws: &mut [u32], h: Head, node: Node) -> Result<Id, Refusal>
-    requires head_is { HeadIs (length ws.old) (hd ws.old) h }
-    requires count_le_places { (node.count ≤ places) × Known (node_of node) h.ids }
-    ensures { UncanonicalOpen ws.old (node_of node) result ws.new }
+fn uncanonical_open(g: &mut GraphMut<'_>, node: Node) -> Result<Id, Refusal>
+    requires head_is { HeadStood g.old }
+    requires count_le_places { (node.count ≤ places) × Known (node_of node) g.old.h.ids }
+    ensures loan { SameLoan g.old g.new }
+    ensures says { UncanonicalOpen g.old.ws.now (node_of node) result g.new.ws.now }
 {
-    match adding::give(ws, h, node)? {
+    match adding::give(g, node)? {
         Given::Old(id) => Ok(id),
-        Given::New(k) => {
-            layout::write_head(ws, k);
-            Ok(Id(h.ids as u32))
+        Given::New(id) => {
+            g.note_head();
+            Ok(id)
         }
     }
 }
@@ -66,22 +68,23 @@ pub fn add_uncanonical(ws: &mut [u32], node: Node) -> Result<Id, Refusal>
     ensures { UncanonicalSays ws.old node result ws.new }
 {
     let h = enter(ws, node)?;
-    uncanonical_open(ws, h, node)
+    uncanonical_open(&mut GraphMut { ws, h }, node)
 }
 
-fn add_open(ws: &mut [u32], h: Head, node: Node) -> Result<Id, Refusal>
-    requires head_is { HeadIs (length ws.old) (hd ws.old) h }
-    requires count_le_places { (node.count ≤ places) × Known (node_of node) h.ids }
-    ensures { AddOpen ws.old (node_of node) result ws.new }
+fn add_open(g: &mut GraphMut<'_>, node: Node) -> Result<Id, Refusal>
+    requires head_is { HeadStood g.old }
+    requires count_le_places { (node.count ≤ places) × Known (node_of node) g.old.h.ids }
+    ensures loan { SameLoan g.old g.new }
+    ensures says { AddOpen g.old.ws.now (node_of node) result g.new.ws.now }
 {
-    match adding::give(ws, h, node)? {
+    match adding::give(g, node)? {
         Given::Old(id) => {
-            let root = parts::on_forest::find(ws, h, id)?;
+            let root = parts::on_forest::find(&g.view(), id)?;
             Ok(root)
         }
-        Given::New(k) => {
-            layout::write_head(ws, k);
-            Ok(Id(h.ids as u32))
+        Given::New(id) => {
+            g.note_head();
+            Ok(id)
         }
     }
 }
@@ -91,5 +94,5 @@ pub fn add(ws: &mut [u32], node: Node) -> Result<Id, Refusal>
     ensures { AddSays ws.old node result ws.new }
 {
     let h = enter(ws, node)?;
-    add_open(ws, h, node)
+    add_open(&mut GraphMut { ws, h }, node)
 }

@@ -1,19 +1,19 @@
-// `setup`: words that hold the fresh graph.
+// `setup`: words that hold the fresh graph. `setup` and `set_up` take the limits n and m beside the words, which a caller lends (document 01): it may
+// lend more words than the limits need.
 ghost use Rattle.std.specs.Prelude.{Ok, ◌<◌, ◌≤◌, length};
 ghost use Rattle.layout.specs.Cut.{need};
-ghost use Rattle.layout.specs.Head.{Fits};
+ghost use Rattle.layout.specs.Did.{Did};
 ghost use Rattle.egraph.specs.Setup.{Limits, Emptied, SetupOpen, SetupSays};
 
 use super::Refusal;
-use layout::Head;
+use layout::{GraphMut, Head};
 
-fn empty_lists(ws: &mut [u32], h: Head)
-    requires { Fits (length ws.old) h }
-    ensures { Emptied h.n h.m ws.old ws.new }
+fn empty_lists(g: &mut GraphMut<'_>)
+    ensures { Did (Emptied g.old.h.n g.old.h.m) g.old g.new }
 {
-    parts::on_uses::clear(ws, h);
-    parts::on_members::clear(ws, h);
-    parts::on_table::clear(ws, h);
+    parts::on_uses::clear(g);
+    parts::on_members::clear(g);
+    parts::on_table::clear(g);
 }
 
 fn set_up(ws: &mut [u32], n: usize, m: usize)
@@ -30,8 +30,9 @@ fn set_up(ws: &mut [u32], n: usize, m: usize)
         classes: 0,
         clean: false,
     };
-    empty_lists(ws, h);
-    layout::clear_scratch(ws, h);
+    let mut g = GraphMut { ws, h };
+    empty_lists(&mut g);
+    layout::clear_scratch(&mut g);
     layout::fresh_head(ws, n, m);
 }
 

@@ -30,7 +30,7 @@ pub enum Refusal {
 }
 
 impl Refusal {
-    // Document 01's number.
+    // Document 01's number: the variant's own, so no table of numbers is written out.
     pub fn number(self) -> u32
         ensures { (result ≡ number_of self) × (result < 10) }
     {
@@ -103,13 +103,13 @@ pub use unions::union;
 
 pub mod listing;
 
-pub use listing::{id_to_node, nodes};
+pub use listing::{id_to_node, nodes, spell_node};
 
 pub mod class_lists;
 
 pub use class_lists::{classes, classes_for_op, total_number_of_nodes};
 
-// No open calls: what an extraction reads, with a head that it has read.
+// No open calls: what an extraction reads of a graph.
 pub mod class_reads;
 
 pub use class_reads::{class_nodes, previous, root_node};

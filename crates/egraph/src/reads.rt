@@ -1,19 +1,18 @@
 // Calls that read one thing and change nothing: `find`, `number_of_classes`, `is_empty`, `clean`.
-ghost use Rattle.std.specs.Prelude.{◌<◌, length};
-ghost use Rattle.layout.specs.View.{hd};
-ghost use Rattle.layout.specs.Head.{HeadIs};
+ghost use Rattle.std.specs.Prelude.{◌<◌};
+ghost use Rattle.layout.specs.Seen.{HeadStands};
 ghost use Rattle.egraph.specs.Reads.{FindOpen, FindSays, CountSays, EmptySays, CleanSays};
 
 use super::{Refusal, read_head};
 use language::Id;
-use layout::Head;
+use layout::Graph;
 
-fn find_open(ws: &[u32], h: Head, id: Id) -> Result<Id, Refusal>
-    requires head_is { HeadIs (length ws.now) (hd ws.now) h }
-    requires id_lt_ids { id.0 < h.ids }
-    ensures { FindOpen ws.now id.0 result }
+fn find_open(g: &Graph<'_>, id: Id) -> Result<Id, Refusal>
+    requires head_stands { HeadStands g.now }
+    requires id_lt_ids { id.0 < g.now.h.ids }
+    ensures { FindOpen g.now.ws.now id.0 result }
 {
-    let root = parts::on_forest::find(ws, h, id)?;
+    let root = parts::on_forest::find(g, id)?;
     Ok(root)
 }
 
@@ -25,7 +24,7 @@ pub fn find(ws: &[u32], id: Id) -> Result<Id, Refusal>
     if h.ids <= id.0 as usize {
         return Err(Refusal::UnknownId);
     }
-    find_open(ws, h, id)
+    find_open(&Graph { ws, h }, id)
 }
 
 // How many classes there are; a graph that is not clean answers too.

@@ -1,18 +1,19 @@
 // The call that closes a graph under congruence: `rebuild`.
 ghost use Rattle.std.specs.Prelude.{length};
 ghost use Rattle.layout.specs.View.{hd};
-ghost use Rattle.layout.specs.Head.{HeadIs};
+ghost use Rattle.layout.specs.Did.{SameLoan, HeadStood};
 ghost use Rattle.egraph.specs.Rebuilds.{RebuildOpen, RebuildSays};
 
 use super::{Refusal, read_head};
-use layout::Head;
+use layout::GraphMut;
 
-fn rebuild_open(ws: &mut [u32], h: Head) -> Result<usize, Refusal>
-    requires { HeadIs (length ws.old) (hd ws.old) h }
-    ensures { RebuildOpen ws.old result ws.new }
+fn rebuild_open(g: &mut GraphMut<'_>) -> Result<usize, Refusal>
+    requires { HeadStood g.old }
+    ensures loan { SameLoan g.old g.new }
+    ensures says { RebuildOpen g.old.ws.now result g.new.ws.now }
 {
-    let drained = rebuilding::rebuild(ws, h)?;
-    layout::write_head(ws, drained.head);
+    let drained = rebuilding::rebuild(g)?;
+    g.note_head();
     Ok(drained.yes)
 }
 
@@ -21,5 +22,5 @@ pub fn rebuild(ws: &mut [u32]) -> Result<usize, Refusal>
     ensures { RebuildSays ws.old result ws.new }
 {
     let h = read_head(ws)?;
-    rebuild_open(ws, h)
+    rebuild_open(&mut GraphMut { ws, h })
 }

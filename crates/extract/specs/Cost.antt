@@ -3,7 +3,7 @@
 -- Assumes nothing.
 use Rattle.std.specs.Prelude.{Err, None, Ok, Option, Result, Some, true, List, [], ◌∷◌, ◌≡◌, refl, ℕ}
 use Rattle.broken.specs.declared.Broken.{Broken}
-use Rattle.broken.specs.Words.{broken}
+use Rattle.broken.specs.Words.{broken, err≢ok}
 use Rattle.std.proofs.Common.{◌∙◌, ap, sym}
 use Rattle.steps.specs.Graph.{Graph, root}
 use Rattle.egraph.specs.Answers.{Answer, count_says, never, nine, no_by, yes_with}
@@ -17,7 +17,7 @@ use Rattle.layout.specs.declared.Head.{Head}
 use Rattle.price.specs.Pass.{Best}
 use Rattle.pricing.specs.Turn.{Scratched}
 use Rattle.extract.specs.Opens.{Free, Ladder, Refused, ScratchCleared, let_through, refused, scratch_back}
-use Rattle.extract.specs.Priced.{PricedAs, PricesClass, cost_of, priced_not}
+use Rattle.extract.specs.Priced.{PricedAs, PricesClass, cost_of}
 use Rattle.extract.specs.declared.Priced.{Priced}
 
 -- the price of a class; a class without one is no made graph's
@@ -48,13 +48,13 @@ module _ (h : Head) (i : ℕ) (ws ws1 : List ℕ) (p : Result Priced Broken) (P 
     where
       go : (g : Graph) (o : Option (Best ℕ)) → PricedAs h g i p (view h.n h.m ws1).scratch o → ◌≡◌ {A = Answer} (no_by 9) (price_says o)
       go g None A = refl
-      go g (Some b) A = priced_not _ (sym e ∙ A.0)
+      go g (Some b) A = err≢ok (sym e ∙ A.0)
 
   pub work_done : (y : Priced) → p ≡ Ok y → WorksOut h i ws (Ok y.size) ws1
   work_done y e = record { only = P.only; fair = λ k q. absurd (never k y.size q); sound = λ g H l K. go g (cost_of g i) (P.law g H l K) }
     where
       go : (g : Graph) (o : Option (Best ℕ)) → PricedAs h g i p (view h.n h.m ws1).scratch o → ◌≡◌ {A = Answer} (yes_with (y.size ∷ [])) (price_says o)
-      go g None A = priced_not y (sym A ∙ e)
+      go g None A = err≢ok (sym A ∙ e)
       go g (Some b) A =
           let same : y ≡ record { root = record { 0 = root g.roots i }; size = b.price } = cc (e, A.0) in
           ap (λ (x : Priced). yes_with (x.size ∷ [])) same

@@ -4,9 +4,8 @@
 -- Assumes nothing.
 use Rattle.std.specs.Prelude.{Err, None, Ok, Option, Result, Some, true, List, [], ◌∷◌, ◌⊎◌, ◌≡◌, refl, ◌+◌, ◌<◌, ◌≤◌, ℕ, drop, length, take}
 use Rattle.broken.specs.declared.Broken.{Broken}
-use Rattle.broken.specs.Words.{broken}
+use Rattle.broken.specs.Words.{broken, err≢ok}
 use Rattle.std.proofs.Common.{inl, inr, ◌∙◌, ap, subst, sym, zero-add, arith}
-use Rattle.lists.specs.Tests.{zero_one}
 use Rattle.lists.specs.Sets.{sets_after, sets_stand}
 use Rattle.steps.specs.Classes.{class_nodes, class_roots}
 use Rattle.steps.specs.Graph.{Graph, root}
@@ -34,7 +33,7 @@ use Rattle.pricing.specs.Entries.{Prices}
 use Rattle.pricing.specs.Laid.{Laid}
 use Rattle.walking.specs.Walk.{FormLaid, ListsForm, Ready}
 use Rattle.extract.specs.Opens.{Free, Ladder, Refused, ScratchCleared, let_through, refused, scratch_back}
-use Rattle.extract.specs.Priced.{PricedAs, PricesClass, cost_of, priced_not}
+use Rattle.extract.specs.Priced.{PricedAs, PricesClass, cost_of}
 use Rattle.extract.specs.declared.Form.{Form}
 use Rattle.extract.specs.declared.forms.Outline.{Outline}
 use Rattle.extract.specs.declared.Priced.{Priced}
@@ -101,23 +100,17 @@ pub record ListsOut (h : Head) (i : ℕ) (ws : List ℕ) (r : Result Outline Bro
   pub few : (o : Outline) → r ≡ Ok o → o.listed ≤ h.n
   pub law : (g : Graph) → Holds ws g → g.clean ≡ true → KidsKnown g → OutlinedAs h g i r (view h.n h.m ws') (cost_of g i)
 
-outline_not : {A : Type 0} (o : Outline) → broken ≡ Ok o → A
-outline_not o e = zero_one cc
-
-listed_not : {A : Type 0} (k : ℕ) → broken ≡ Ok k → A
-listed_not k e = zero_one cc
-
 module _ (h : Head) (i : ℕ) (ws ws1 : List ℕ) (q : HeadIs (length ws) (hd ws) h) (p : Result Priced Broken) (P : PricesClass h i ws p ws1) where
   pub list_unpriced : p ≡ broken → ListsOut h i ws broken ws1
   list_unpriced e = record {
     only = lent_map (λ s s' z. tt) P.only;
-    few = λ t z. outline_not t z;
+    few = λ t z. err≢ok z;
     law = λ g H c K. go g (cost_of g i) (P.law g H c K);
   }
     where
       go : (g : Graph) (o : Option (Best ℕ)) → PricedAs h g i p (view h.n h.m ws1).scratch o → OutlinedAs h g i broken (view h.n h.m ws1) o
       go g None A = refl
-      go g (Some b) A = priced_not _ (sym e ∙ A.0)
+      go g (Some b) A = err≢ok (sym e ∙ A.0)
 
   module _ (y : Priced) (e : p ≡ Ok y) (ws2 : List ℕ) (o : Result ℕ Broken) (L : ListsForm h y.root.0 ws1 o ws2) where
     both : InScratch h.n h.m ws ws2
@@ -136,14 +129,14 @@ module _ (h : Head) (i : ℕ) (ws ws1 : List ℕ) (q : HeadIs (length ws) (hd ws
     pub list_broken : o ≡ broken → ListsOut h i ws broken ws2
     list_broken w = record {
       only = both;
-      few = λ t z. outline_not t z;
+      few = λ t z. err≢ok z;
       law = λ g H l K. go g H l K (cost_of g i) (P.law g H l K);
     }
       where
         go : (g : Graph) → Holds ws g → g.clean ≡ true → KidsKnown g → (m : Option (Best ℕ)) → PricedAs h g i p (view h.n h.m ws1).scratch m
             → OutlinedAs h g i broken (view h.n h.m ws2) m
         go g H l K None A = refl
-        go g H l K (Some b) A = listed_not (length (listing g (table AstSize g) (root g.roots i))) (sym w ∙ (laid_out g H l K b A).is)
+        go g H l K (Some b) A = err≢ok (sym w ∙ (laid_out g H l K b A).is)
 
     pub list_done : (k : ℕ) → o ≡ Ok k → ListsOut h i ws (Ok (record { size = y.size; listed = k })) ws2
     list_done k w = record {
@@ -154,7 +147,7 @@ module _ (h : Head) (i : ℕ) (ws ws1 : List ℕ) (q : HeadIs (length ws) (hd ws
       where
         go : (g : Graph) → Holds ws g → g.clean ≡ true → KidsKnown g → (m : Option (Best ℕ)) → cost_of g i ≡ m → PricedAs h g i p (view h.n h.m ws1).scratch m
             → OutlinedAs h g i (Ok (record { size = y.size; listed = k })) (view h.n h.m ws2) m
-        go g H l K None u A = priced_not y (sym A ∙ e)
+        go g H l K None u A = err≢ok (sym A ∙ e)
         go g H l K (Some b) u A =
             let F = laid_out g H l K b A in
             let C : Classed h (view h.n h.m ws2) g = classed_lent both (classed ws h g q H l K) in
@@ -177,15 +170,12 @@ pub record WritesOut (h : Head) (s k : ℕ) (ws out : List ℕ) (r : Result Form
   pub fair : FormFair out r out'
   pub sound : (g : Graph) (c : ℕ) → FormStands h g c (view h.n h.m ws) → k ≡ length (listing g (table AstSize g) c) → FormLists s (form_words (listing g (table AstSize g) c)) out r out'
 
-form_not : {A : Type 0} (f : Form) (q : Refusal) → Err q ≡ Ok f → A
-form_not f q e = zero_one cc
-
 -- refused by 9 or 8
 fair_nine : (out : List ℕ) → FormFair out (Err BrokenWords) out
-fair_nine out = record { inside = λ s k e. form_not _ BrokenWords e; size = refl; refused = λ k e. (inl (nine k e), refl) }
+fair_nine out = record { inside = λ s k e. err≢ok e; size = refl; refused = λ k e. (inl (nine k e), refl) }
 
 fair_eight : (out : List ℕ) → FormFair out (Err TooLong) out
-fair_eight out = record { inside = λ s k e. form_not _ TooLong e; size = refl; refused = λ k e. (inr (sym (ap (λ (a : Answer). a.number) e)), refl) }
+fair_eight out = record { inside = λ s k e. err≢ok e; size = refl; refused = λ k e. (inr (sym (ap (λ (a : Answer). a.number) e)), refl) }
 
 module _ (h : Head) (s k : ℕ) (ws out : List ℕ) (few : h.ids ≤ h.n) where
   abbrev v : View
@@ -250,14 +240,14 @@ module _ (h : Head) (i : ℕ) (ws ws1 out : List ℕ) (o : Result Outline Broken
     where
       go : (g : Graph) (m : Option (Best ℕ)) → OutlinedAs h g i o (view h.n h.m ws1) m → FormAs (form_of g i) out (Err BrokenWords) out m
       go g None A = (refl, refl)
-      go g (Some b) A = outline_not _ (sym e ∙ A.0)
+      go g (Some b) A = err≢ok (sym e ∙ A.0)
 
   pub out_done : (y : Outline) → o ≡ Ok y → (r : Result Form Refusal) (out' : List ℕ) → WritesOut h y.size y.listed ws1 out r out'
       → FormsOut h i ws out r ws1 out'
   out_done y e r out' W = record { only = L.only; fair = W.fair; sound = λ g H c K. go g (cost_of g i) (L.law g H c K) }
     where
       go : (g : Graph) (m : Option (Best ℕ)) → OutlinedAs h g i o (view h.n h.m ws1) m → FormAs (form_of g i) out r out' m
-      go g None A = outline_not y (sym A ∙ e)
+      go g None A = err≢ok (sym A ∙ e)
       go g (Some b) A =
           let same : y ≡ record { size = b.price; listed = length (listing g (table AstSize g) (root g.roots i)) } = cc (e, A.0) in
           subst (λ (z : ℕ). FormLists z (form_of g i) out r out') (ap (λ (x : Outline). x.size) same)
@@ -269,7 +259,7 @@ module _ (ws : List ℕ) (i : ℕ) (out : List ℕ) where
   pub form_refused : (q : Refusal) → Refused ws i q → FormSays ws i out (Err q) ws out
   form_refused q R = record {
     same = refl;
-    inside = λ s k e. form_not _ q e;
+    inside = λ s k e. err≢ok e;
     says =
         refused ws i (FormNo out (Err q) out) (λ (p : Refusal). FormOpen ws i out (Err p) out) q R (refl, refl)
         (λ no. record { fair = fair_nine out; sound = λ g H K. absurd (no g H) });

@@ -1,11 +1,10 @@
 -- The class of an id and its price, with the prices of all classes left in the scratch part: what the two calls of this crate begin with. `price_class` promises that it
 -- writes prices and marks alone, and that on words that hold a clean graph it answers the price in the table that the passes leave, with all in place for a walk.
 -- Assumes nothing.
-use Rattle.std.specs.Prelude.{Err, None, Ok, Option, Result, Some, true, List, [], ◌∷◌, ◌≢◌, ◌≡◌, refl, ◌<◌, ◌≤◌, ℕ, length}
+use Rattle.std.specs.Prelude.{Err, None, Ok, Option, Result, Some, true, List, [], ◌∷◌, ◌≡◌, refl, ◌<◌, ◌≤◌, ℕ, length}
 use Rattle.broken.specs.declared.Broken.{Broken}
-use Rattle.broken.specs.Words.{broken}
+use Rattle.broken.specs.Words.{apart, broken, err≢ok}
 use Rattle.std.proofs.Common.{◌∙◌, ap, sym, arith}
-use Rattle.lists.specs.Tests.{zero_one}
 use Rattle.language.specs.declared.Id.{Id}
 use Rattle.steps.specs.Graph.{Graph, root}
 use Rattle.egraph.specs.Answers.{Answer, id_says, ids_is, never, number_of, yes_with}
@@ -21,7 +20,7 @@ use Rattle.price.specs.Extract.{table}
 use Rattle.price.specs.Pass.{Best, look}
 use Rattle.price.specs.Size.{AstSize}
 use Rattle.pricing.specs.Costs.{FindsCosts}
-use Rattle.pricing.specs.Entries.{As, EntryAt, entry_as}
+use Rattle.pricing.specs.Entries.{EntryAt, Means, entry_as}
 use Rattle.pricing.specs.Turn.{Scratched}
 use Rattle.pricing.specs.declared.Entry.{Entry}
 use Rattle.walking.specs.Walk.{Ready, ready}
@@ -41,9 +40,6 @@ pub record PricesClass (h : Head) (i : ℕ) (ws : List ℕ) (r : Result Priced B
   pub low : (y : Priced) → r ≡ Ok y → y.root.0 < h.n
   pub law : (g : Graph) → Holds ws g → g.clean ≡ true → KidsKnown g → PricedAs h g i r (view h.n h.m ws').scratch (cost_of g i)
 
-pub priced_not : {A : Type 0} (y : Priced) → broken ≡ Ok y → A
-priced_not y e = zero_one cc
-
 module _ (h : Head) (i : ℕ) (ws : List ℕ) (q : HeadIs (length ws) (hd ws) h) (hi : i < h.ids) (f : Result Id Refusal) (F : FindSays ws i f) where
   -- what `find` answers on words that hold a graph
   found : (g : Graph) → Holds ws g → id_says f ≡ yes_with (root g.roots i ∷ [])
@@ -53,7 +49,7 @@ module _ (h : Head) (i : ℕ) (ws : List ℕ) (q : HeadIs (length ws) (hd ws) h)
   not_found k e g H = never (number_of k) (root g.roots i) (sym (found g H) ∙ ap id_says e)
 
   pub price_lost : (k : Refusal) → f ≡ Err k → PricesClass h i ws broken ws
-  price_lost k e = record { only = lent_same ws (λ j l. refl); low = λ p z. priced_not p z; law = λ g H c K. absurd (not_found k e g H) }
+  price_lost k e = record { only = lent_same ws (λ j l. refl); low = λ p z. err≢ok z; law = λ g H c K. absurd (not_found k e g H) }
 
   module _ (x : Id) (e : f ≡ Ok x) where
     root_is : (g : Graph) → Holds ws g → x.0 ≡ root g.roots i
@@ -62,41 +58,38 @@ module _ (h : Head) (i : ℕ) (ws : List ℕ) (q : HeadIs (length ws) (hd ws) h)
     pub price_stray : h.ids ≤ x.0 → PricesClass h i ws broken ws
     price_stray off = record {
       only = lent_same ws (λ j l. refl);
-      low = λ p z. priced_not p z;
+      low = λ p z. err≢ok z;
       law = λ g H c K. let C = classed ws h g q H c K in absurd (omega (arith, root_is g H, classed_root C i (omega (arith, classed_ids C))));
     }
 
     module _ (ws1 : List ℕ) (o : Result Unit Broken) (C : FindsCosts h ws o ws1) where
       pub price_broken : o ≡ broken → PricesClass h i ws broken ws1
-      price_broken b = record { only = C.only; low = λ p z. priced_not p z; law = λ g H c K. absurd (apart (C.law g H c K).0) }
-        where
-          apart : o ≡ Ok tt → ⊥
-          apart d = zero_one cc
+      price_broken b = record { only = C.only; low = λ p z. err≢ok z; law = λ g H c K. apart b (C.law g H c K).0 }
 
-      module _ (y : Entry) (lt : x.0 < h.n) (E : EntryAt h.n (view h.n h.m ws1).scratch x.0 y) where
+      module _ (y : Option Entry) (lt : x.0 < h.n) (E : EntryAt h.n (view h.n h.m ws1).scratch x.0 y) where
         -- the entry of the id's class
-        entry_is : (g : Graph) → Holds ws g → g.clean ≡ true → KidsKnown g → As g y.mark y.price (cost_of g i)
+        entry_is : (g : Graph) → Holds ws g → g.clean ≡ true → KidsKnown g → Means g y (cost_of g i)
         entry_is g H c K = rw (← root_is g H) (entry_as g h.n (view h.n h.m ws1).scratch (table AstSize g) x.0 y (C.law g H c K).1 lt E)
 
-        pub price_none : y.mark ≡ 0 → PricesClass h i ws broken ws1
-        price_none z = record { only = C.only; low = λ p w. priced_not p w; law = λ g H c K. go g (cost_of g i) (entry_is g H c K) }
+        pub price_none : y ≡ None → PricesClass h i ws broken ws1
+        price_none z = record { only = C.only; low = λ p w. err≢ok w; law = λ g H c K. go g (cost_of g i) (rw z at (entry_is g H c K)) }
           where
-            go : (g : Graph) (o : Option (Best ℕ)) → As g y.mark y.price o → PricedAs h g i broken (view h.n h.m ws1).scratch o
-            go g None A = refl
-            go g (Some b) A = absurd (omega (arith, A.marked))
+            go : (g : Graph) (o : Option (Best ℕ)) → Means g None o → PricedAs h g i broken (view h.n h.m ws1).scratch o
+            go g None M = refl
+            go g (Some b) M = absurd M
 
-        pub price_done : y.mark ≢ 0 → PricesClass h i ws (Ok (record { root = x; size = y.price })) ws1
-        price_done n = record {
+        pub price_done : (e : Entry) → y ≡ Some e → PricesClass h i ws (Ok (record { root = x; size = e.price })) ws1
+        price_done e s = record {
           only = C.only;
-          low = λ p w. let z : record { root = x; size = y.price } ≡ p = cc in rw (← z) lt;
-          law = λ g H c K. go g H c K (cost_of g i) refl (entry_is g H c K);
+          low = λ p w. let z : record { root = x; size = e.price } ≡ p = cc in rw (← z) lt;
+          law = λ g H c K. go g H c K (cost_of g i) refl (rw s at (entry_is g H c K));
         }
           where
-            go : (g : Graph) → Holds ws g → g.clean ≡ true → KidsKnown g → (o : Option (Best ℕ)) → cost_of g i ≡ o → As g y.mark y.price o
-                → PricedAs h g i (Ok (record { root = x; size = y.price })) (view h.n h.m ws1).scratch o
-            go g H c K None w A = absurd (n A)
-            go g H c K (Some b) w A = (
-              ap (λ (k : ℕ). (Ok (record { root = (record { 0 = k }); size = y.price }))) (root_is g H)
-                  ∙ ap (λ (p : ℕ). (Ok (record { root = (record { 0 = root g.roots i }); size = p }))) A.price_is,
+            go : (g : Graph) → Holds ws g → g.clean ≡ true → KidsKnown g → (o : Option (Best ℕ)) → cost_of g i ≡ o → Means g (Some e) o
+                → PricedAs h g i (Ok (record { root = x; size = e.price })) (view h.n h.m ws1).scratch o
+            go g H c K None w M = absurd M
+            go g H c K (Some b) w M = (
+              ap (λ (k : ℕ). (Ok (record { root = (record { 0 = k }); size = e.price }))) (root_is g H)
+                  ∙ ap (λ (p : ℕ). (Ok (record { root = (record { 0 = root g.roots i }); size = p }))) M.price_is,
               ready h ws ws1 o q C g H c K (root g.roots i) b w,
             )

@@ -3,7 +3,7 @@
 #![tactic(auto)]
 
 ghost use Rattle.std.specs.Prelude.{◌<◌, length};
-ghost use Rattle.layout.specs.Head.{HeadIs};
+ghost use Rattle.layout.specs.Did.{Did, HeadStood};
 ghost use Rattle.layout.specs.View.{hd};
 ghost use Rattle.extract.specs.Opens.{Opens};
 ghost use Rattle.extract.specs.Priced.{PricesClass};
@@ -12,7 +12,7 @@ ghost use Rattle.extract.specs.Cost.{CostSays, WorksOut};
 use broken::Broken;
 use egraph::Refusal;
 use language::Id;
-use layout::Head;
+use layout::{Graph, GraphMut, Head};
 
 // A class, by its root, and its price.
 #[derive(Clone, Copy)]
@@ -39,29 +39,28 @@ fn open(ws: &[u32], id: Id) -> Result<Head, Refusal>
     if !h.clean {
         return Err(Refusal::NotRebuilt);
     }
-    if !layout::scratch_is_clear(ws, h) {
+    if !layout::scratch_is_clear(&Graph { ws, h }) {
         return Err(Refusal::BrokenWords);
     }
     Ok(h)
 }
 
 // The root of an id's class and the price of the class, from a scratch part that is 0, and is left with the prices of all classes.
-fn price_class(ws: &mut [u32], h: Head, id: Id) -> Result<Priced, Broken>
-    requires head_is { HeadIs (length ws.old) (hd ws.old) h }
-    requires id_lt_ids { id.0 < h.ids }
-    ensures { PricesClass h id.0 ws.old result ws.new }
+fn price_class(g: &mut GraphMut<'_>, id: Id) -> Result<Priced, Broken>
+    requires head_is { HeadStood g.old }
+    requires id_lt_ids { id.0 < g.old.h.ids }
+    ensures { Did (λ ws ws'. PricesClass g.old.h id.0 ws result ws') g.old g.new }
 {
-    let Ok(root) = egraph::find(ws, id) else {
+    let Ok(root) = egraph::find(g.view().ws, id) else {
         return Err(Broken);
     };
-    if h.ids <= root.0 as usize {
+    if g.h.ids <= root.0 as usize {
         return Err(Broken);
     }
-    pricing::find_costs(ws, h)?;
-    let e = pricing::get_entry(ws, h, root);
-    if e.mark == 0 {
+    pricing::find_costs(g)?;
+    let Some(e) = pricing::get_entry(&g.view(), root) else {
         return Err(Broken);
-    }
+    };
     Ok(Priced {
         root,
         size: e.price,
@@ -69,12 +68,12 @@ fn price_class(ws: &mut [u32], h: Head, id: Id) -> Result<Priced, Broken>
 }
 
 // The size of the class of an id, from a scratch part that is 0.
-fn work_out(ws: &mut [u32], h: Head, id: Id) -> Result<u64, Refusal>
-    requires head_is { HeadIs (length ws.old) (hd ws.old) h }
-    requires id_lt_ids { id.0 < h.ids }
-    ensures { WorksOut h id.0 ws.old result ws.new }
+fn work_out(g: &mut GraphMut<'_>, id: Id) -> Result<u64, Refusal>
+    requires head_is { HeadStood g.old }
+    requires id_lt_ids { id.0 < g.old.h.ids }
+    ensures { Did (λ ws ws'. WorksOut g.old.h id.0 ws result ws') g.old g.new }
 {
-    let priced = price_class(ws, h, id)?;
+    let priced = price_class(g, id)?;
     Ok(priced.size)
 }
 
@@ -83,8 +82,9 @@ pub fn find_best_cost(ws: &mut [u32], id: Id) -> Result<u64, Refusal>
     ensures { CostSays ws.old id.0 result ws.new }
 {
     let h = open(ws, id)?;
-    let answer = work_out(ws, h, id);
-    layout::clear_scratch(ws, h);
+    let mut g = GraphMut { ws, h };
+    let answer = work_out(&mut g, id);
+    layout::clear_scratch(&mut g);
     answer
 }
 

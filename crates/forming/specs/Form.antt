@@ -2,12 +2,11 @@
 -- where one of them leads astray. On words that hold a listing by the prices of a clean graph, what is written is the words of that listing.
 -- Assumes nothing.
 use Rattle.broken.specs.declared.Broken.{Broken}
-use Rattle.broken.specs.Words.{broken}
+use Rattle.broken.specs.Words.{broken, err≢ok}
 use Rattle.std.specs.Prelude.{Ok, Result, List, [], ◌++◌, ◌∷◌, ◌≡◌, refl, ◌+◌, ◌<◌, ◌≤◌, suc, zero, ℕ, length, take}
 use Rattle.std.proofs.Common.{◌∙◌, ap, subst, sym, add-one, arith, take-suc}
 use Rattle.std.proofs.Math.Decide.{ℕ_discrete}
 use Rattle.std.proofs.Math.Seq.{take-length}
-use Rattle.lists.specs.Tests.{zero_one}
 use Rattle.language.specs.Struct.{node_of}
 use Rattle.language.specs.Term.{Term, spell, words}
 use Rattle.language.specs.declared.Node.{Node}
@@ -37,9 +36,6 @@ pub record FormMeasured (h : Head) (v : View) (k : ℕ) (r : Result ℕ Broken) 
   pub fine : (x : ℕ) → r ≡ Ok x → FineForm h v k
   pub broken : r ≡ broken → FineForm h v k → ⊥
 
-pub broken_is : {A : Type 0} (x : ℕ) → broken ≡ Ok x → A
-broken_is x e = zero_one cc
-
 module _ (h : Head) (v : View) where
   pub fine_none : FineForm h v 0
   fine_none p lt = absurd (omega arith)
@@ -48,12 +44,12 @@ module _ (h : Head) (v : View) where
   measure_whole k total t F = record {
     whole = λ x q. let s : x ≡ total = cc in s ∙ t;
     fine = λ x q. F;
-    broken = λ q. broken_is total (sym q);
+    broken = λ q. err≢ok (sym q);
   }
 
   module _ (p : ℕ) (r : Result Node Broken) (N : NodeAt h v p r) where
     pub measure_broken : (k : ℕ) → p < k → r ≡ broken → FormMeasured h v k broken
-    measure_broken k lt e = record { whole = λ x q. broken_is x q; fine = λ x q. broken_is x q; broken = λ _ F. N.lost e (F p lt) }
+    measure_broken k lt e = record { whole = λ x q. err≢ok q; fine = λ x q. err≢ok q; broken = λ _ F. N.lost e (F p lt) }
 
     module _ (x : Node) (e : r ≡ Ok x) where
       piece_is : words (node_of x) ≡ form_piece h v p

@@ -1,14 +1,13 @@
 -- The node at a place of the listing, as the words say it: the class at the place, the id that its mark names, the node of that id, with the places of its children.
 -- `NodeAt` is what `form_node` promises on any words; on words that hold a clean graph, its prices and a listing by them it is the node of the listing.
 -- Assumes nothing.
-use Rattle.std.specs.Prelude.{IsOk, Ok, Err, Result, Some, List, ◌≢◌, ◌≡◌, ◌*◌, ◌+◌, ◌-◌, ◌<◌, ◌≤◌, suc, ℕ, length}
+use Rattle.std.specs.Prelude.{IsOk, Ok, Err, Option, Result, None, Some, List, ◌≡◌, ◌*◌, ◌+◌, ◌-◌, ◌<◌, ◌≤◌, suc, ℕ, length}
 use Rattle.broken.specs.declared.Broken.{Broken}
-use Rattle.broken.specs.Words.{broken}
+use Rattle.broken.specs.Words.{broken, err≢ok}
 use Rattle.std.proofs.Common.{◌∙◌, subst, arith}
 use Rattle.std.proofs.Math.Path.{ap, refl, sym}
 use Rattle.lists.specs.Members.{mem_at}
 use Rattle.lists.specs.Reads.{at, map_at}
-use Rattle.lists.specs.Tests.{zero_one}
 use Rattle.language.specs.Struct.{node_of}
 use Rattle.language.specs.Term.{Term, over_kids, places, term_path, words}
 use Rattle.language.specs.declared.Id.{Id}
@@ -21,10 +20,11 @@ use Rattle.layout.specs.declared.Head.{Head}
 use Rattle.price.specs.Listing.{Listing, in_order, or_zero, spot, spot_of, with_places}
 use Rattle.price.specs.Pass.{Table}
 use Rattle.price.specs.Shown.{in_order_at}
-use Rattle.pricing.specs.Entries.{Names, Prices, joined}
+use Rattle.pricing.specs.Entries.{EntryAt, Names, Prices, entry, mark, mark_is, named}
 use Rattle.pricing.specs.Laid.{Laid, class_at, place_word}
+use Rattle.pricing.specs.declared.Entry.{Entry}
 use Rattle.forming.specs.Kept.{AtPlace, Kept}
-use Rattle.forming.specs.Placed.{HasPlace, KidsPlaced, WithPlaces, broken_is, place_at}
+use Rattle.forming.specs.Placed.{HasPlace, KidsPlaced, WithPlaces, place_at}
 
 -- ---- on any words
 
@@ -67,30 +67,29 @@ pub record ChosenAt (n : ℕ) (ss : List ℕ) (p : ℕ) (r : Result Id Broken) :
   pub found : (i : Id) → r ≡ Ok i → (at ss (4 * n + p) < n) × (0 < mark_of ss n p) × (i.0 ≡ mark_of ss n p - 1)
   pub lost : r ≡ broken → at ss (4 * n + p) < n → 0 < mark_of ss n p → ⊥
 
-none_chosen : {A : Type 0} (i : Id) → broken ≡ Ok i → A
-none_chosen i e = zero_one cc
-
 module _ (n : ℕ) (ss : List ℕ) (p c : ℕ) (L : Loaded ss (4 * n + p) c) where
   pub chosen_stray : n ≤ c → ChosenAt n ss p broken
-  chosen_stray h = record { found = λ i e. none_chosen i e; lost = λ _ l m. omega (arith, L.is) }
+  chosen_stray h = record { found = λ i e. err≢ok e; lost = λ _ l m. omega (arith, L.is) }
 
-  module _ (w : ℕ) (M : Loaded ss (2 * n + c) w) where
-    mark : w ≡ mark_of ss n p
-    mark = M.is ∙ ap (λ (d : ℕ). at ss (2 * n + d)) L.is
+  module _ (o : Option Entry) (E : EntryAt n ss c o) where
+    its_mark : mark o ≡ mark_of ss n p
+    its_mark = rw (E.is, L.is) (mark_is _ _)
 
-    pub chosen_unmarked : w ≡ 0 → ChosenAt n ss p broken
-    chosen_unmarked z = record { found = λ i e. none_chosen i e; lost = λ _ l m. omega (arith, mark) }
+    pub chosen_unpriced : o ≡ None → ChosenAt n ss p broken
+    chosen_unpriced z = record { found = λ i e. err≢ok e; lost = λ _ l m. let w : 0 ≡ mark_of ss n p = rw z at its_mark in omega arith }
 
-    pub chosen_is : c < n → w ≢ 0 → (i : Id) → i.0 ≡ w - 1 → ChosenAt n ss p (Ok i)
-    chosen_is h s i is = record {
-      found = λ j e. let q : i ≡ j = cc in (omega (arith, L.is), omega (arith, mark), rw (← q) (is ∙ ap (λ (d : ℕ). d - 1) mark));
-      lost = λ e. none_chosen i (sym e);
-    }
+    pub chosen_is : c < n → (e : Entry) → o ≡ Some e → ChosenAt n ss p (Ok e.id)
+    chosen_is h e z =
+        let w : suc e.id.0 ≡ mark_of ss n p = rw z at its_mark in
+        record {
+          found = λ j d. let q : e.id ≡ j = cc in (omega (arith, L.is), omega arith, rw (← q) (omega arith));
+          lost = λ d. err≢ok (sym d);
+        }
 
 -- ---- the node
 
 refuse : (h : Head) (v : View) (p : ℕ) → (FineNode h v p → ⊥) → NodeAt h v p broken
-refuse h v p b = record { few = λ x e. broken_is x e; exact = λ x e. broken_is x e; only = λ x e. broken_is x e; lost = λ _ F. b F }
+refuse h v p b = record { few = λ x e. err≢ok e; exact = λ x e. err≢ok e; only = λ x e. err≢ok e; lost = λ _ F. b F }
 
 module _ (h : Head) (v : View) (p : ℕ) (o : Result Id Broken) (C : ChosenAt h.n v.scratch p o) where
   pub node_unchosen : o ≡ broken → NodeAt h v p broken
@@ -133,18 +132,18 @@ module _ (h : Head) (v : View) (g : Graph) (t : Table ℕ) (l : Listing) (few : 
     here = K.each p hp
 
     -- the entry of the class
-    named : Names g (at ss (2 * n + class_at p l)) (joined (at ss (2 * class_at p l)) (at ss (2 * class_at p l + 1))) here.best
-    named = rw here.chosen at (P.each (class_at p l) (L.low p hp))
+    there : (e : Entry) × (entry n ss (class_at p l) ≡ Some e) × Names g e here.best
+    there = named g _ here.best (rw here.chosen at (P.each (class_at p l) (L.low p hp)))
 
-    marked : mark_of ss n p ≡ suc named.id
-    marked = ap (λ (c : ℕ). at ss (2 * n + c)) (L.classes p hp) ∙ named.marked
+    marked : mark_of ss n p ≡ suc there.0.id.0
+    marked = rw (L.classes p hp) (sym (mark_is _ _) ∙ ap mark there.1)
 
-    id_is : mark_of ss n p - 1 ≡ named.id
+    id_is : mark_of ss n p - 1 ≡ there.0.id.0
     id_is = omega (arith, marked)
 
     -- its node is the chosen node
     node_read : its_node h v p ≡ here.best.node
-    node_read = ap (λ (i : ℕ). root_node_in h v i) id_is ∙ ((classed_node C named.id named.known).1 ∙ named.node_is)
+    node_read = ap (λ (i : ℕ). root_node_in h v i) id_is ∙ ((classed_node C there.0.id.0 there.2.known).1 ∙ there.2.node_is)
 
     -- the place word of a child
     place_is : (c : ℕ) → c < n → (q : ℕ) → spot c l ≡ Some q → at ss (3 * n + c) ≡ suc q
@@ -152,7 +151,8 @@ module _ (h : Head) (v : View) (g : Graph) (t : Table ℕ) (l : Listing) (few : 
 
     kid_low : (i : ℕ) → i < length here.best.node.kids → at here.best.node.kids i < n
     kid_low i lt =
-        let k : at here.best.node.kids i < h.ids = subst (λ (x : Term). (i : ℕ) → i < length x.kids → at x.kids i < h.ids) named.node_is (classed_kids C named.id named.known) i lt in
+        let k : at here.best.node.kids i < h.ids =
+        subst (λ (x : Term). (i : ℕ) → i < length x.kids → at x.kids i < h.ids) there.2.node_is (classed_kids C there.0.id.0 there.2.known) i lt in
         omega arith
 
     kid_placed : (i : ℕ) → i < length here.best.node.kids → HasPlace n ss (at here.best.node.kids i)
@@ -165,7 +165,7 @@ module _ (h : Head) (v : View) (g : Graph) (t : Table ℕ) (l : Listing) (few : 
     node_fine = record {
       class_low = rw (L.classes p hp) (L.low p hp);
       marked = omega (arith, marked);
-      readable = rw id_is (classed_node C named.id named.known).0;
+      readable = rw id_is (classed_node C there.0.id.0 there.2.known).0;
       kids = rw node_read kid_placed;
     }
 

@@ -1,8 +1,8 @@
 // A cheapest form, written out from its listing in the scratch part (document 01, "The price of a form"): how many words it takes, and the words, in a slice that the
-// caller lends. The words are a clean graph's, with the head h read before, and k classes are listed; only the slice is written. Of the scratch part are read:
+// caller lends. The words are a clean graph's, and k classes are listed; only the slice is written. Of the scratch part are read:
 //
 //   words of scratch   what
-//   2n + c             the mark of class c: 1 and an id that has its chosen node
+//   0 to 3n - 1        the entry of class c (pricing): an id that has its chosen node
 //   3n + c             its place in the listing: 1 and the place
 //   4n + p             the class at place p
 //
@@ -14,7 +14,7 @@ ghost use Rattle.std.specs.Prelude.{ℕ, ◌+◌, ◌<◌, ◌≤◌, length};
 ghost use Rattle.language.specs.Term.{places};
 ghost use Rattle.language.specs.Struct.{node_of};
 ghost use Rattle.layout.specs.Head.{HeadOk};
-ghost use Rattle.layout.specs.View.{view};
+ghost use Rattle.layout.specs.Seen.{seen};
 ghost use Rattle.spelling.specs.Pieces.{Wrote, pieces};
 ghost use Rattle.forming.specs.Placed.{WithPlaces};
 ghost use Rattle.forming.specs.FormNode.{ChosenAt, FineNode, NodeAt, form_piece};
@@ -22,88 +22,80 @@ ghost use Rattle.forming.specs.Form.{FormMeasured};
 
 use broken::Broken;
 use language::{Id, Node};
-use layout::Head;
+use layout::Graph;
 
 // ---- one node
 
 // The node with each child replaced by the place of its class.
-fn with_places(ws: &[u32], h: Head, node: Node) -> Result<Node, Broken>
-    requires head_ok { HeadOk (length ws.now) h }
-    requires count_le_places { node.count ≤ places }
-    ensures { WithPlaces h.n (view h.n h.m ws.now).scratch (node_of node) result }
+fn with_places(g: &Graph<'_>, node: Node) -> Result<Node, Broken>
+    requires { node.count ≤ places }
+    ensures { WithPlaces g.now.h.n (seen g.now).scratch (node_of node) result }
 {
-    let n = h.n;
     let mut y = node;
     for i in 0..node.count as usize {
-        let c = y.child(i).0 as usize;
-        if n <= c {
+        let c = y.child(i);
+        if g.h.n <= c.0 as usize {
             return Err(Broken);
         }
-        let place = layout::scratch(ws, h, 3 * n + c);
-        if place == 0 {
+        let Some(place) = pricing::place_of(g, c) else {
             return Err(Broken);
-        }
-        y = y.with_child(i, Id((place - 1) as u32));
+        };
+        y = y.with_child(i, Id(place as u32));
     }
     Ok(y)
 }
 
 // An id that has the chosen node of the class at place p.
-fn chosen(ws: &[u32], h: Head, p: usize) -> Result<Id, Broken>
-    requires head_ok { HeadOk (length ws.now) h }
-    requires p_lt_n { p < h.n }
-    ensures { ChosenAt h.n (view h.n h.m ws.now).scratch p result }
+fn chosen(g: &Graph<'_>, p: usize) -> Result<Id, Broken>
+    requires { p < g.now.h.n }
+    ensures { ChosenAt g.now.h.n (seen g.now).scratch p result }
 {
-    let n = h.n;
-    let c = layout::scratch(ws, h, 4 * n + p);
+    let n = g.h.n;
+    let c = layout::scratch(g, 4 * n + p);
     if n <= c {
         return Err(Broken);
     }
-    let mark = layout::scratch(ws, h, 2 * n + c);
-    if mark == 0 {
+    let Some(e) = pricing::get_entry(g, Id(c as u32)) else {
         return Err(Broken);
-    }
-    Ok(Id((mark - 1) as u32))
+    };
+    Ok(e.id)
 }
 
 // The node at place p.
-fn form_node(ws: &[u32], h: Head, p: usize) -> Result<Node, Broken>
-    requires head_ok { HeadOk (length ws.now) h }
-    requires p_lt_n { p < h.n }
-    ensures { NodeAt h (view h.n h.m ws.now) p result }
+fn form_node(g: &Graph<'_>, p: usize) -> Result<Node, Broken>
+    requires { p < g.now.h.n }
+    ensures { NodeAt g.now.h (seen g.now) p result }
 {
-    let id = chosen(ws, h, p)?;
-    let node = egraph::root_node(ws, h, id)?;
-    with_places(ws, h, node)
+    let id = chosen(g, p)?;
+    let node = egraph::root_node(g, id)?;
+    with_places(g, node)
 }
 
 // ---- the form
 
 // How many words the form takes.
-pub fn measure_form(ws: &[u32], h: Head, k: usize) -> Result<usize, Broken>
-    requires head_ok { HeadOk (length ws.now) h }
-    requires k_le_n { k ≤ h.n }
-    ensures { FormMeasured h (view h.n h.m ws.now) k result }
+pub fn measure_form(g: &Graph<'_>, k: usize) -> Result<usize, Broken>
+    requires { k ≤ g.now.h.n }
+    ensures { FormMeasured g.now.h (seen g.now) k result }
 {
     let mut total = 0;
     for p in 0..k {
-        let node = form_node(ws, h, p)?;
+        let node = form_node(g, p)?;
         total += spelling::node_length(node);
     }
     Ok(total)
 }
 
 // The nodes of the form, first listed first, from the start of a slice that has room for them; the place behind them.
-pub fn put_form(ws: &[u32], h: Head, k: usize, out: &mut [u32]) -> usize
-    requires head_ok { HeadOk (length ws.now) h }
-    requires k_le_n { k ≤ h.n }
-    requires by_index { (p : ℕ) → p < k → FineNode h (view h.n h.m ws.now) p }
-    requires k_in_bounds { length (pieces (form_piece h (view h.n h.m ws.now)) k) ≤ length out.old }
-    ensures { Wrote out.old 0 (pieces (form_piece h (view h.n h.m ws.now)) k) result out.new }
+pub fn put_form(g: &Graph<'_>, k: usize, out: &mut [u32]) -> usize
+    requires k_le_n { k ≤ g.now.h.n }
+    requires by_index { (p : ℕ) → p < k → FineNode g.now.h (seen g.now) p }
+    requires k_in_bounds { length (pieces (form_piece g.now.h (seen g.now)) k) ≤ length out.old }
+    ensures { Wrote out.old 0 (pieces (form_piece g.now.h (seen g.now)) k) result out.new }
 {
     let mut at = 0;
     for p in 0..k {
-        let node = form_node(ws, h, p).unwrap();
+        let node = form_node(g, p).unwrap();
         at = spelling::put_node(out, at, node);
     }
     at

@@ -1,9 +1,8 @@
 -- The new id is connected: linked to the parent list of each child's root, and pushed on pending.
 -- Assumes nothing.
-use Rattle.std.specs.Prelude.{Ok, Result, List, ◌≡◌, refl, ◌*◌, ◌+◌, ◌<◌, ℕ, length}
+use Rattle.std.specs.Prelude.{Ok, Result, List, ◌≡◌, ◌*◌, ◌+◌, ◌<◌, ℕ, length}
 use Rattle.broken.specs.declared.Broken.{Broken}
-use Rattle.broken.specs.Words.{broken}
-use Rattle.cells.specs.Changes.{change_apart}
+use Rattle.broken.specs.Words.{apart, broken, err≢ok}
 use Rattle.steps.specs.Graph.{Graph}
 use Rattle.steps.specs.Machine.{linked, pushed}
 use Rattle.growing.specs.Link.{LinksAll}
@@ -24,8 +23,8 @@ module _ (h : Head) (base i : ℕ) (ks : List ℕ) (r : Result Unit Broken) (ws 
   pub connect_broken : r ≡ broken → Connects h base i ks broken ws ws1
   connect_broken e = record {
     inside = L.inside;
-    room = λ q. absurd (change_apart broken refl q);
-    sound = λ g H few. absurd (change_apart r e (L.sound g H).0);
+    room = λ q. err≢ok q;
+    sound = λ g H few. apart e (L.sound g H).0;
   }
 
   pub connected : (q : Result Unit Broken) (ws2 : List ℕ) → PushesId h i q ws1 ws2 → Connects h base i ks q ws ws2

@@ -1,12 +1,10 @@
 -- The steps of an add put together: the new id stored, entered in the table, linked to its children's classes and pushed on pending. `Grows` is what `grow` promises.
 -- Assumes nothing.
-use Rattle.std.specs.Prelude.{Ok, Result, false, List, [], ◌++◌, ◌∷◌, ◌≡◌, refl, ◌+◌, ℕ, length, None}
+use Rattle.std.specs.Prelude.{Ok, Result, false, List, [], ◌++◌, ◌∷◌, ◌≡◌, refl, ◌*◌, ◌+◌, ◌<◌, ◌≤◌, ℕ, length, None}
 use Rattle.broken.specs.declared.Broken.{Broken}
-use Rattle.broken.specs.Words.{broken}
+use Rattle.broken.specs.Words.{apart, broken, err≢ok}
 use Rattle.std.proofs.Common.{ap, arith}
-use Rattle.lists.specs.Tests.{zero_one}
 use Rattle.holds.specs.HoldsLaws.{root_again}
-use Rattle.cells.specs.Changes.{change_apart}
 use Rattle.language.specs.Term.{Term}
 use Rattle.steps.specs.Graph.{Graph, canon, ids, kept}
 use Rattle.steps.specs.Machine.{grow, keyed, linked, marked, pushed, stored}
@@ -28,7 +26,7 @@ pub record Addable (h : Head) (x k : Term) (v : View) (g : Graph) : Type 0 where
   pub key : k ≡ canon g.roots x
   pub new : kept k g.memo ≡ None
 
--- what `grow` promises: on any words the numbers that it answers are in range; on words that hold a graph it is the machine's own step
+-- what `grow` promises: on any words the numbers that the head is left with are in range; on words that hold a graph it is the machine's own step
 pub record Grows (h : Head) (x k : Term) (r : Result Head Broken) (ws ws' : List ℕ) : Type 0 where
   pub inside : Inside h.n h.m ws ws'
   pub range : (s : Head) → r ≡ Ok s → Near (length ws) h s × (s.ids ≡ h.ids + 1)
@@ -53,15 +51,12 @@ pub record Goes (h : Head) (x k : Term) (r : Result Unit Broken) (B : Graph → 
 pub grown_broken : {h : Head} {x k : Term} {B : Graph → Type 0} {r : (Result Unit Broken)} {ws ws' : List ℕ} → Goes h x k r B ws ws' → r ≡ broken → Grows h x k broken ws ws'
 grown_broken {r = r} G e = record {
   inside = G.inside;
-  range = λ t q. absurd (broken_apart q);
-  sound = λ g a. absurd (change_apart r e (G.sound g a).0);
+  range = λ t q. err≢ok q;
+  sound = λ g a. apart e (G.sound g a).0;
 }
-  where
-    broken_apart : {t : Head} → broken ≡ Ok t → ⊥
-    broken_apart q = zero_one cc
 
 module _ (h : Head) (c : ℕ) (x k : Term) where
-  -- the numbers once the id is stored
+  -- the head once the id is stored
   abbrev more : Head
   more = stored_numbers h c
 
@@ -90,9 +85,21 @@ module _ (h : Head) (c : ℕ) (x k : Term) where
           (p.0, rw (← grow_is g x k h.ids a.key a.holds.ids_are) p.1))
 
   pub grown_done : {r : (Result Unit Broken)} {ws ws' : List ℕ} → Goes h x k r (λ g. HoldsAt (deeper more) more.places (view h.n h.m ws') (grow g x)) ws ws'
-      → HeadOk (length ws) (deeper more) → Grows h x k (Ok (deeper more)) ws ws'
-  grown_done {ws = ws} G ok = record {
+      → HeadOk (length ws) h → h.ids < h.n → h.places + c ≤ h.m → h.depth < 2 * h.n → Grows h x k (Ok (deeper more)) ws ws'
+  grown_done {ws = ws} G o id_room place_room depth_room = record {
     inside = G.inside;
     range = λ t q. let e : deeper more ≡ t = cc in rw (← e) (record { ok = ok; n_is = refl; m_is = refl }, refl);
     sound = λ g a. (deeper more, refl, (G.sound g a).1);
   }
+    where
+      ok : HeadOk (length ws) (deeper more)
+      ok = record {
+        n_low = o.n_low;
+        n_high = o.n_high;
+        m_high = o.m_high;
+        ids_in = omega arith;
+        places_in = place_room;
+        depth_in = omega arith;
+        classes_in = omega (arith, o.classes_in);
+        lent = o.lent;
+      }

@@ -3,14 +3,14 @@
 -- Assumes nothing.
 use Rattle.std.specs.Prelude.{Ok, Result, List, [], ◌++◌, ◌∷◌, ◌≡◌, refl, ◌+◌, ◌<◌, ◌≤◌, ℕ, length, set, take}
 use Rattle.broken.specs.declared.Broken.{Broken}
-use Rattle.broken.specs.Words.{broken}
+use Rattle.broken.specs.Words.{apart, broken}
 use Rattle.std.proofs.Common.{subst, add-one, arith, length-take-le, take-suc}
 use Rattle.std.proofs.Math.Seq.{take-length}
 use Rattle.lists.specs.Reads.{at, length_more}
 use Rattle.steps.specs.Graph.{Graph}
 use Rattle.steps.specs.Machine.{link, linked}
 use Rattle.closure.specs.Facts.{link_append}
-use Rattle.cells.specs.Changes.{Pushed, change_apart}
+use Rattle.cells.specs.Changes.{Pushed}
 use Rattle.holds.specs.Holds.{HoldsAt}
 use Rattle.holds.specs.Inside.{Inside, inside_lent, inside_same, inside_then}
 use Rattle.holds.specs.ParentsLaws.{parents_link}
@@ -103,4 +103,4 @@ links_all h base i j ks ws ws' A e = rw (e, take-length ks) at A
 
 -- a place that is not taken: no graph is held
 pub links_broken : (h : Head) (base i : ℕ) (js ks : List ℕ) (r : Result Unit Broken) (ws ws' : List ℕ) → LinksAll h base i js r ws ws' → r ≡ broken → LinksAll h base i ks broken ws ws'
-links_broken h base i js ks r ws ws' A e = record { inside = A.inside; sound = λ g H. absurd (change_apart r e (A.sound g H).0) }
+links_broken h base i js ks r ws ws' A e = record { inside = A.inside; sound = λ g H. apart e (A.sound g H).0 }

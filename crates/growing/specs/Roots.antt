@@ -2,10 +2,9 @@
 -- Assumes nothing.
 use Rattle.std.specs.Prelude.{Ok, Result, List, ◌≡◌, refl, ◌+◌, ◌<◌, ◌≤◌, ℕ, length}
 use Rattle.broken.specs.declared.Broken.{Broken}
-use Rattle.broken.specs.Words.{broken}
+use Rattle.broken.specs.Words.{apart, broken, err≢ok}
 use Rattle.std.proofs.Common.{arith, subst}
 use Rattle.lists.specs.Reads.{at}
-use Rattle.lists.specs.Tests.{zero_one}
 use Rattle.language.specs.Partway.{Partway, partway_all, partway_more}
 use Rattle.language.specs.Struct.{node_of}
 use Rattle.language.specs.Term.{Term, places, rekid}
@@ -67,9 +66,6 @@ module _ (ws : List ℕ) (h : Head) (x : Node) where
 
   pub roots_lost : (k : ℕ) (r : Result ℕ Broken) → Finds (view h.n h.m ws).forest h.ids k r → r ≡ broken → WithRoots ws h x broken
   roots_lost k r F e = record {
-    found = λ y (q : broken ≡ Ok y). zero_one cc;
-    sound = λ g u H. absurd (never (F.law h.classes g.roots H.forest));
+    found = λ y q. err≢ok q;
+    sound = λ g u H. apart e (F.law h.classes g.roots H.forest);
   }
-    where
-      never : {y : ℕ} → r ≡ Ok y → ⊥
-      never q = zero_one cc

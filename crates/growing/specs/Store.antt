@@ -3,6 +3,7 @@
 use Rattle.std.specs.Prelude.{Ok, Result, false, List, [], ◌++◌, ◌∷◌, ◌≡◌, refl, ◌+◌, ◌<◌, ◌≤◌, ℕ, length}
 use Rattle.broken.specs.declared.Broken.{Broken}
 use Rattle.std.proofs.Common.{subst, sym, arith}
+use Rattle.std.proofs.lemmas.Bool.{false≢true}
 use Rattle.lists.specs.Reads.{length_more}
 use Rattle.language.specs.Term.{Term}
 use Rattle.steps.specs.Graph.{Graph}
@@ -10,7 +11,6 @@ use Rattle.steps.specs.Machine.{marked, stored}
 use Rattle.cells.specs.Changes.{Pushed}
 use Rattle.growing.specs.Enter.{Waits}
 use Rattle.holds.specs.Holds.{HoldsAt}
-use Rattle.holds.specs.HoldsLaws.{false≢true}
 use Rattle.holds.specs.Inside.{Inside, inside_lent, inside_then}
 use Rattle.holds.specs.MembersLaws.{members_more}
 use Rattle.holds.specs.NodesLaws.{nodes_more}
@@ -23,7 +23,7 @@ use Rattle.rows.specs.Places.{taken_more}
 use Rattle.rows.specs.Promise.{Stored}
 use Rattle.unionfind.specs.Promise.{MakesSet}
 
--- the numbers with one id more, whose node has c children
+-- the head with one id more, whose node has c children
 abbrev pub stored_numbers : Head → ℕ → Head
 stored_numbers h c = record { n = h.n; m = h.m; ids = h.ids + 1; places = h.places + c; depth = h.depth; classes = h.classes + 1; clean = false }
 

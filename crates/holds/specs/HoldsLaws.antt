@@ -1,9 +1,10 @@
 -- How `HoldsAt` goes through small changes: the way to a root shortened, the head written, `clean` unset, the sort's work area used. And the border between words at
 -- rest and the numbers and parts of a call.
 -- Assumes nothing.
-use Rattle.std.specs.Prelude.{Bool, false, true, List, ◌≡◌, refl, ◌<◌, ◌≤◌, ℕ, length}
+use Rattle.std.specs.Prelude.{false, List, ◌≡◌, refl, ◌<◌, ◌≤◌, ℕ, length}
 use Rattle.std.proofs.Common.{⊎_elim, ap, subst, sym}
-use Rattle.lists.specs.Tests.{lt_or, zero_one}
+use Rattle.std.proofs.lemmas.Bool.{false≢true}
+use Rattle.lists.specs.Tests.{lt_or}
 use Rattle.steps.specs.Graph.{Graph, root}
 use Rattle.steps.specs.Machine.{marked}
 use Rattle.closure.specs.Facts.{root_out}
@@ -14,9 +15,6 @@ use Rattle.layout.specs.View.{View, hd, put, put_head, view}
 use Rattle.layout.specs.Written.{Noted, head_written, noted_is, written}
 use Rattle.layout.specs.declared.Head.{Head}
 use Rattle.unionfind.specs.Forest.{Forest, root_root}
-
-pub false≢true : ◌≡◌ {A = Bool} false true → ⊥
-false≢true e = zero_one cc
 
 abbrev pub unclean : Head → Head
 unclean h = record { n = h.n; m = h.m; ids = h.ids; places = h.places; depth = h.depth; classes = h.classes; clean = false }

@@ -29,7 +29,7 @@ inside_lent {k} {n} {m} {P} {ws} {ws'} apart t = record {
   scratch = ap (λ (v : View). v.scratch) t.else ∙ apart (view n m ws) (get k (view n m ws'));
 }
 
--- ---- the numbers that a step answers
+-- ---- the head that a step leaves
 
 -- k has the limits of h, and numbers in range
 pub record Near (len : ℕ) (h k : Head) : Type 0 where

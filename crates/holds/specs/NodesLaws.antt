@@ -8,7 +8,6 @@ use Rattle.std.proofs.Common.{inl, ◌∙◌, ap, sym, arith}
 use Rattle.lists.specs.Options.{none≢some}
 use Rattle.lists.specs.Reads.{length_more}
 use Rattle.lists.specs.Relabel.{relabel}
-use Rattle.language.specs.Struct.{node_of}
 use Rattle.language.specs.Term.{Term, term_at}
 use Rattle.language.specs.declared.Id.{Id}
 use Rattle.steps.specs.Graph.{kept, node, root}

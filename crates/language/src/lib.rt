@@ -20,12 +20,15 @@ pub const PLACES: usize = 8;
 
 const FACTOR: u32 = 2654435769;
 
+// That an id is known is asked where it is used, and is no fact of an `Id`: it depends on the graph, and words hold any number.
 #[derive(Clone, Copy, Debug, PartialEq, Eq, PartialOrd, Ord, Hash)]
 pub struct Id(pub u32);
 
 #[derive(Clone, Copy, Debug, PartialEq, Eq, PartialOrd, Ord, Hash)]
 pub struct Op(pub u32);
 
+// The children are the first `count` of `kids`. No vector of a fixed capacity, which has no heap either: it is no `Copy`, and a node in hand may count more than
+// eight children, which an open call refuses by 5 (`Gated` of egraph).
 #[derive(Clone, Copy)]
 pub struct Node {
     pub op: Op,
@@ -111,7 +114,7 @@ impl Node {
         self.matches(other) && self.children() == other.children()
     }
 
-    // Node order: operator, payload, child count, children left to right.
+    // Node order: operator, payload, child count, children left to right. No order is derived either, for the same reason.
     pub fn order(self, other: Node) -> Ordering
         requires { (self.count ≤ places) × (other.count ≤ places) }
         ensures { result ≡ order (node_of self) (node_of other) }

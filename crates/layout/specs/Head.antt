@@ -19,13 +19,7 @@ numbers h = record { n = at h 0; m = at h 1; ids = at h 2; places = at h 3; dept
 
 -- ---- when they are good
 
--- len words are as many as the limits need, and the limits are in range: what every part is lent under
-pub record Fits (len : ℕ) (s : Head) : Type 0 where
-  pub n_high : s.n ≤ 65536
-  pub m_high : s.m ≤ 262144
-  pub lent : need s.n s.m ≤ len
-
--- limits and counts in range, and as many words lent as the limits need
+-- limits and counts in range, and as many words lent as the limits need: what every part is lent under
 pub record HeadOk (len : ℕ) (s : Head) : Type 0 where
   pub n_low : 1 ≤ s.n
   pub n_high : s.n ≤ 65536
@@ -52,12 +46,6 @@ HeadSays len h (Some s) = HeadIs len h s
 HeadSays len h None = GoodHead len h → ⊥
 
 -- ---- the laws
-
-pub ok_fits : {len : ℕ} {s : Head} → HeadOk len s → Fits len s
-ok_fits o = record { n_high = o.n_high; m_high = o.m_high; lent = o.lent }
-
-pub head_fits : {len : ℕ} {h : List ℕ} {s : Head} → HeadIs len h s → Fits len s
-head_fits q = ok_fits q.ok
 
 pub head_good : {len : ℕ} {h : List ℕ} {s : Head} → HeadIs len h s → GoodHead len h
 head_good {len} q = record { flag = q.flag; ok = subst (λ (t : Head). HeadOk len t) q.is q.ok }

@@ -1,4 +1,6 @@
 pub mod Cut
+pub mod Seen
+pub mod Did
 pub mod View
 pub mod Back
 pub mod Lent

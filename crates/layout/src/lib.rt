@@ -18,6 +18,7 @@
 #![tactic(auto)]
 
 pub mod arrays; // arrays.rt: the parts that are plain arrays
+mod graph; // graph.rt: a graph as it is read, and as it is written
 mod ranges; // ranges.rt: where each part lies
 
 ghost use Rattle.std.specs.Prelude.{◌≡◌, ◌≤◌, length};
@@ -30,6 +31,7 @@ ghost use Rattle.layout.specs.Written.{written, fresh_numbers, fresh_head, Noted
 pub use arrays::{
     clear_scratch, owner, scratch, scratch_is_clear, set_owner, set_scratch, set_work, work,
 };
+pub use graph::{Graph, GraphMut};
 
 // The most ids that a graph may be set up for.
 pub const MAX_IDS: usize = 65536;
@@ -118,7 +120,7 @@ pub fn write_head(ws: &mut [u32], h: Head)
     ]);
 }
 
-// The head of a fresh graph, with all spare words 0.
+// The head of a fresh graph, with all spare words 0. The limits n and m are what it writes: how many words are lent does not tell them.
 pub fn fresh_head(ws: &mut [u32], n: usize, m: usize)
     requires { HeadOk (length ws.old) (fresh_numbers n m) }
     ensures { Noted ws.old ws.new (fresh_head n m) }

@@ -1,5 +1,6 @@
 // Where each part lies in the words of a graph: the head answers its range, and `&ws[h.owners()]` lends it.
-// That the limits are in range is asked of each call, and is no ghost field of Head, since `numbers` of specs/Head.antt makes a head of any words.
+// That the limits are in range is asked by each method, and is no fact of `Head`, since `numbers` of specs/Head.antt makes a head of any words; `Graph` and
+// `GraphMut` have it.
 ghost use Rattle.std.specs.Prelude.{◌≡◌, ◌≤◌};
 ghost use Rattle.layout.specs.Cut.{Spans, forest, lower, members, owners, pending, rows, scratch, sorting, table, upper, uses};
 

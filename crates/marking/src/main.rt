@@ -92,7 +92,8 @@ fn root(ws: &[u32; WORDS], form: Result<Id, Refusal>) -> Result<Id, Refusal>
     egraph::find(ws, form?)
 }
 
-// Right where both have one root, wrong where they have two, and no mark where either was refused.
+// Right where both have one root, wrong where they have two, and no mark where either was refused. So `==` of the two answers does not say it: two
+// refusals may be equal.
 fn compare(answer: Result<Id, Refusal>, key: Result<Id, Refusal>) -> Option<Mark>
     ensures { result ≡ mark_of answer key }
 {
@@ -135,7 +136,7 @@ fn mark_both(ws: &mut [u32; WORDS]) -> Marks
     }
 }
 
-// Marks the sheet with room for n forms.
+// Marks the sheet with room for n forms: a limit of the graph, and not how many words there are.
 fn mark_sheet(ws: &mut [u32; WORDS], n: usize) -> Marks
     ensures { Earned result.careful × Earned result.mistaken }
 {

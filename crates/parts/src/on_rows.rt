@@ -1,9 +1,9 @@
 // The stored nodes, lent their part.
 ghost use Rattle.std.specs.Prelude.{◌≡◌, ◌<◌, ◌≤◌, length, ◌+◌};
 ghost use Rattle.layout.specs.Cut.{rows};
-ghost use Rattle.layout.specs.View.{view};
+ghost use Rattle.layout.specs.Seen.{seen};
 ghost use Rattle.layout.specs.Lent.{Lent};
-ghost use Rattle.layout.specs.Head.{Fits};
+ghost use Rattle.layout.specs.Did.{Did};
 ghost use Rattle.language.specs.Term.{places};
 ghost use Rattle.language.specs.Struct.{node_of};
 ghost use Rattle.rows.specs.Read.{given_read, key_read};
@@ -11,58 +11,66 @@ ghost use Rattle.rows.specs.Promise.{IsNode, Given, Key, Stored, Keyed};
 
 use broken::Broken;
 use language::{Id, Node};
-use layout::Head;
+use layout::{Graph, GraphMut};
+use rows::Nodes;
+
+// The stored nodes of a graph.
+pub(crate) fn nodes<'a>(g: &Graph<'a>) -> Nodes<'a>
+    ensures { (result.ws.now ≡ (seen g.now).rows) × (result.n ≡ g.now.h.n) × (result.m ≡ g.now.h.m) }
+{
+    Nodes {
+        ws: &g.ws[g.h.rows()],
+        n: g.h.n,
+        m: g.h.m,
+    }
+}
 
 // The node of an id, as it was given.
-pub fn given(ws: &[u32], h: Head, id: Id) -> Result<Node, Broken>
-    requires fits { Fits (length ws.now) h }
-    requires id_lt_n { id.0 < h.n }
-    ensures { Given (view h.n h.m ws.now).rows h.n h.m id.0 result }
+pub fn given(g: &Graph<'_>, id: Id) -> Result<Node, Broken>
+    requires { id.0 < g.now.h.n }
+    ensures { Given (seen g.now).rows g.now.h.n g.now.h.m id.0 result }
 {
-    rows::given(&ws[h.rows()], h.n, h.m, id)
+    nodes(g).given(id)
 }
 
 // The key of an id.
-pub fn key(ws: &[u32], h: Head, id: Id) -> Result<Node, Broken>
-    requires fits { Fits (length ws.now) h }
-    requires id_lt_n { id.0 < h.n }
-    ensures { Key (view h.n h.m ws.now).rows h.n h.m id.0 result }
+pub fn key(g: &Graph<'_>, id: Id) -> Result<Node, Broken>
+    requires { id.0 < g.now.h.n }
+    ensures { Key (seen g.now).rows g.now.h.n g.now.h.m id.0 result }
 {
-    rows::key(&ws[h.rows()], h.n, h.m, id)
+    nodes(g).key(id)
 }
 
 // The node of an id, as it was given, on any words: a row that no call could have written counts as one without children.
-pub fn given_or_leaf(ws: &[u32], h: Head, id: Id) -> Node
-    requires fits { Fits (length ws.now) h }
-    requires id_lt_n { id.0 < h.n }
-    ensures { IsNode result (given_read (view h.n h.m ws.now).rows h.n h.m id.0) }
+pub fn given_or_leaf(g: &Graph<'_>, id: Id) -> Node
+    requires { id.0 < g.now.h.n }
+    ensures { IsNode result (given_read (seen g.now).rows g.now.h.n g.now.h.m id.0) }
 {
-    rows::given_or_leaf(&ws[h.rows()], h.n, h.m, id)
+    nodes(g).given_or_leaf(id)
 }
 
 // The key of an id, on any words: a row that no call could have written counts as one without children.
-pub fn key_or_leaf(ws: &[u32], h: Head, id: Id) -> Node
-    requires fits { Fits (length ws.now) h }
-    requires id_lt_n { id.0 < h.n }
-    ensures { IsNode result (key_read (view h.n h.m ws.now).rows h.n h.m id.0) }
+pub fn key_or_leaf(g: &Graph<'_>, id: Id) -> Node
+    requires { id.0 < g.now.h.n }
+    ensures { IsNode result (key_read (seen g.now).rows g.now.h.n g.now.h.m id.0) }
 {
-    rows::key_or_leaf(&ws[h.rows()], h.n, h.m, id)
+    nodes(g).key_or_leaf(id)
 }
 
 // A new id's node, as given, and its key.
-pub fn store(ws: &mut [u32], h: Head, id: Id, place: usize, node: Node, key: Node)
-    requires fits { Fits (length ws.old) h }
-    requires id_lt_n { (id.0 < h.n) × (place + node.count ≤ h.m) × (node.count ≤ places) × (key.count ≡ node.count) }
-    ensures { Lent rows h.n h.m (λ w w'. Stored w w' h.n h.m id.0 place (node_of node) (node_of key)) ws.old ws.new }
+pub fn store(g: &mut GraphMut<'_>, id: Id, place: usize, node: Node, key: Node)
+    requires { (id.0 < g.old.h.n) × (place + node.count ≤ g.old.h.m) × (node.count ≤ places) × (key.count ≡ node.count) }
+    ensures { Did (Lent rows g.old.h.n g.old.h.m (λ w w'. Stored w w' g.old.h.n g.old.h.m id.0 place (node_of node) (node_of key))) g.old g.new }
 {
-    rows::store(&mut ws[h.rows()], h.n, h.m, id, place, node, key);
+    let h = g.h;
+    rows::store(&mut g.ws[h.rows()], h.n, h.m, id, place, node, key);
 }
 
 // Another key for an id.
-pub fn set_key(ws: &mut [u32], h: Head, id: Id, node: Node) -> Result<(), Broken>
-    requires fits { Fits (length ws.old) h }
-    requires id_lt_n { (id.0 < h.n) × (node.count ≤ places) }
-    ensures { Lent rows h.n h.m (λ w w'. Keyed w w' h.n h.m id.0 (node_of node) result) ws.old ws.new }
+pub fn set_key(g: &mut GraphMut<'_>, id: Id, node: Node) -> Result<(), Broken>
+    requires { (id.0 < g.old.h.n) × (node.count ≤ places) }
+    ensures { Did (Lent rows g.old.h.n g.old.h.m (λ w w'. Keyed w w' g.old.h.n g.old.h.m id.0 (node_of node) result)) g.old g.new }
 {
-    rows::set_key(&mut ws[h.rows()], h.n, h.m, id, node)
+    let h = g.h;
+    rows::set_key(&mut g.ws[h.rows()], h.n, h.m, id, node)
 }

@@ -1,9 +1,9 @@
 // The node table, lent its part, and to be asked the stored nodes beside it.
 ghost use Rattle.std.specs.Prelude.{◌<◌, ◌≤◌, length};
 ghost use Rattle.layout.specs.Cut.{table};
-ghost use Rattle.layout.specs.View.{view};
+ghost use Rattle.layout.specs.Seen.{seen};
 ghost use Rattle.layout.specs.Lent.{Lent};
-ghost use Rattle.layout.specs.Head.{Fits};
+ghost use Rattle.layout.specs.Did.{Did};
 ghost use Rattle.language.specs.Term.{places};
 ghost use Rattle.language.specs.Struct.{node_of};
 ghost use Rattle.table.specs.Asking.{Answers};
@@ -11,41 +11,41 @@ ghost use Rattle.table.specs.Entering.{Entered};
 ghost use Rattle.table.specs.Leaving.{Departed};
 ghost use Rattle.cells.specs.Empty.{Cleared};
 
+use super::on_rows::nodes;
 use broken::Broken;
 use language::{Id, Node};
-use layout::Head;
+use layout::{Graph, GraphMut};
 
 // The id in the table that has this key.
-pub fn ask(ws: &[u32], h: Head, node: Node) -> Result<Option<Id>, Broken>
-    requires fits { Fits (length ws.now) h }
-    requires le_n { (1 ≤ h.n) × (node.count ≤ places) }
-    ensures { Answers (view h.n h.m ws.now).table (view h.n h.m ws.now).rows h.n h.m (node_of node) result }
+pub fn ask(g: &Graph<'_>, node: Node) -> Result<Option<Id>, Broken>
+    requires { node.count ≤ places }
+    ensures { Answers (seen g.now).table (seen g.now).rows g.now.h.n g.now.h.m (node_of node) result }
 {
-    table::ask(&ws[h.table()], &ws[h.rows()], h.n, h.m, node)
+    table::ask(&g.ws[g.h.table()], &nodes(g), node)
 }
 
 // An id goes into a bucket.
-pub fn enter(ws: &mut [u32], h: Head, bucket: usize, id: Id) -> Result<(), Broken>
-    requires fits { Fits (length ws.old) h }
-    requires bucket_lt_n { (bucket < h.n) × (id.0 < h.n) }
-    ensures { Lent table h.n h.m (λ w w'. Entered w w' h.n bucket id.0 result) ws.old ws.new }
+pub fn enter(g: &mut GraphMut<'_>, bucket: usize, id: Id) -> Result<(), Broken>
+    requires { (bucket < g.old.h.n) × (id.0 < g.old.h.n) }
+    ensures { Did (Lent table g.old.h.n g.old.h.m (λ w w'. Entered w w' g.old.h.n bucket id.0 result)) g.old g.new }
 {
-    table::enter(&mut ws[h.table()], h.n, bucket, id)
+    let h = g.h;
+    table::enter(&mut g.ws[h.table()], h.n, bucket, id)
 }
 
 // An id goes out of a bucket, if it is there.
-pub fn leave(ws: &mut [u32], h: Head, bucket: usize, id: Id) -> Result<bool, Broken>
-    requires fits { Fits (length ws.old) h }
-    requires bucket_lt_n { (bucket < h.n) × (id.0 < h.n) }
-    ensures { Lent table h.n h.m (λ w w'. Departed w w' h.n bucket id.0 result) ws.old ws.new }
+pub fn leave(g: &mut GraphMut<'_>, bucket: usize, id: Id) -> Result<bool, Broken>
+    requires { (bucket < g.old.h.n) × (id.0 < g.old.h.n) }
+    ensures { Did (Lent table g.old.h.n g.old.h.m (λ w w'. Departed w w' g.old.h.n bucket id.0 result)) g.old g.new }
 {
-    table::leave(&mut ws[h.table()], h.n, bucket, id)
+    let h = g.h;
+    table::leave(&mut g.ws[h.table()], h.n, bucket, id)
 }
 
 // Every bucket empty.
-pub fn clear(ws: &mut [u32], h: Head)
-    requires { Fits (length ws.old) h }
-    ensures { Lent table h.n h.m (λ w w'. Cleared w w' h.n h.n) ws.old ws.new }
+pub fn clear(g: &mut GraphMut<'_>)
+    ensures { Did (Lent table g.old.h.n g.old.h.m (λ w w'. Cleared w w' g.old.h.n g.old.h.n)) g.old g.new }
 {
-    cells::clear(&mut ws[h.table()], h.n);
+    let h = g.h;
+    cells::clear(&mut g.ws[h.table()], h.n);
 }

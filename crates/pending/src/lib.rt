@@ -7,7 +7,7 @@
 //
 // The depth, which is the number of entries, is the caller's to keep. To take the id pushed last, the caller asks for the `top`. One id: the depth
 // falls by one. A stretch: the id is the owner of its last place, and `push_stretch` at the depth below puts the stretch without that place there.
-// What the words stand for is specs/Moves.antt's `Pending`.
+// So the depth comes beside the words: it stands in the head, which is another part. What the words stand for is specs/Moves.antt's `Pending`.
 #![tactic(auto)]
 
 ghost use Rattle.std.specs.Prelude.{◌+◌, ◌≤◌, ◌<◌, ◌^◌, length};

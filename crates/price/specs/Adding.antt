@@ -5,7 +5,7 @@ use mathlib.Core.List.{List, [], ◌∷◌}
 use Rattle.std.specs.Prelude.{◌⊎◌, ◌≡◌, ℕ}
 use Rattle.std.proofs.Common.{inl, inr}
 use Rattle.lists.specs.Members.{Mem, mem-cases, mem-nil}
-use Rattle.price.specs.Rule.{Each, Rule}
+use Rattle.price.specs.Rule.{Each, Rule, total_same}
 
 pub record Adding (P : Type 0) : Type 1 where
   pub plus : P → P → P
@@ -23,11 +23,7 @@ module _ {P : Type 0} (A : Adding P) where
   add_on a (p ∷ ps) = add_on (A.plus a p) ps
 
   pub adding_refl : (a : P) → A.Le a a
-  adding_refl a = go (A.test a a)
-    where
-      go : Dec (A.Le a a) → A.Le a a
-      go (yes h) = h
-      go (no n) = A.total a a n
+  adding_refl a = total_same A.Le A.test A.total a
 
   pub on_rises : (a b : P) (ps qs : List P) → A.Le a b → Each A.Le ps qs → A.Le (add_on a ps) (add_on b qs)
   unfolding add_on Each

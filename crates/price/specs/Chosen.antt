@@ -167,9 +167,10 @@ module _ {P : Type 0} (R : Rule P) (nodes : ℕ → List Term) where
   )
 
   module _ (rs : List ℕ) (listed : (r : ℕ) (x : Term) → Mem x (nodes r) → Mem r rs) (t : Table P) (B : Backed t) (K : Ranked t) where
+    -- what has a price is a class
+    pub in_list : (q : ℕ) (a : Best P) → look q t ≡ Some a → Mem q rs
+    in_list q a k = listed q a.node (B q a k).0
+
     -- 3. no circle
     pub no_circle : (r : ℕ) (b : Best P) → look r t ≡ Some b → Deep t (length rs) r
     no_circle r b e = deep t K (length rs) rs (omega arith) r (in_list r b e) (λ q h. in_list q h.0 h.2) b e
-      where
-        in_list : (q : ℕ) (a : Best P) → look q t ≡ Some a → Mem q rs
-        in_list q a k = listed q a.node (B q a k).0

@@ -1,6 +1,6 @@
 -- What `look`, `prices`, `best` and `accept` say; and how to prove something of every table that passes make.
 -- Assumes nothing.
-use mathlib.Core.List.{List, [], ◌∷◌}
+use mathlib.Core.List.{List, [], ◌∷◌, cons≢nil}
 use Rattle.std.specs.Prelude.{◌≢◌, ◌⊎◌, Option, None, Some}
 use Rattle.std.proofs.Common.{inl, inr, ◌∙◌, sym}
 use Rattle.std.proofs.Math.Path.{◌≡◌, ap, refl}
@@ -8,7 +8,7 @@ use Prim.Native.Nat.{suc, zero, ℕ}
 use Rattle.std.proofs.Math.Decide.{ℕ_discrete}
 use Rattle.lists.specs.Members.{Mem, here, mem-cases, mem-nil, there}
 use Rattle.lists.specs.Options.{none≢some, some_inj}
-use Rattle.lists.specs.Tests.{when, when_no, when_yes, zero_one}
+use Rattle.lists.specs.Tests.{when, when_no, when_yes}
 use Rattle.language.specs.Term.{Term}
 use Rattle.price.specs.Pass.{Best, Table, accept, after, best, better, look, pass, priced, prices, turn, with_price}
 use Rattle.price.specs.Rule.{Each, Rule, same_le}
@@ -33,20 +33,14 @@ module _ {P : Type 0} where
   pub prices_from : (t : Table P) (cs : List ℕ) (ps : List P) → prices t cs ≡ Some ps → Each (Priced t) cs ps
   unfolding prices with_price Each
   prices_from t [] [] e = tt
-  prices_from t [] (p ∷ ps) e = absurd (nil_cons (some_inj e))
-    where
-      nil_cons : ◌≡◌ {A = List P} [] (p ∷ ps) → ⊥
-      nil_cons q = zero_one cc
+  prices_from t [] (p ∷ ps) e = absurd (cons≢nil (sym (some_inj e)))
   prices_from t (c ∷ cs) ps e = go (look c t) (prices t cs) ps refl refl e (prices_from t cs)
     where
       go : (o : Option (Best P)) (m : Option (List P)) (qs : List P) → look c t ≡ o → prices t cs ≡ m → with_price o m ≡ Some qs
           → ((ss : List P) → prices t cs ≡ Some ss → Each (Priced t) cs ss) → Each (Priced t) (c ∷ cs) qs
       go None m qs a k e ih = absurd (none≢some e)
       go (Some b) None qs a k e ih = absurd (none≢some e)
-      go (Some b) (Some ss) [] a k e ih = absurd (cons_nil (some_inj e))
-        where
-          cons_nil : ◌≡◌ {A = List P} (b.price ∷ ss) [] → ⊥
-          cons_nil q = zero_one cc
+      go (Some b) (Some ss) [] a k e ih = absurd (cons≢nil (some_inj e))
       go (Some b) (Some ss) (q ∷ qs) a k e ih = ((b, a, cc e), ih qs (k ∙ ap Some (cc e)))
 
 module _ {P : Type 0} (R : Rule P) where

@@ -12,6 +12,14 @@ Each L [] (q ∷ qs) = ⊥
 Each L (p ∷ ps) [] = ⊥
 Each L (p ∷ ps) (q ∷ qs) = L p q × Each L ps qs
 
+-- an order that is total and can be tested has each price at most itself
+pub total_same : {P : Type 0} (Le : P → P → Type 0) → ((p q : P) → Dec (Le p q)) → ((p q : P) → ¬ Le p q → Le q p) → (p : P) → Le p p
+total_same Le test total p = go (test p p)
+  where
+    go : Dec (Le p p) → Le p p
+    go (yes h) = h
+    go (no n) = total p p n
+
 pub record Rule (P : Type 0) : Type 1 where
   pub of : ℕ → ℕ → List P → P
   pub Le : P → P → Type 0
@@ -32,8 +40,4 @@ module _ {P : Type 0} (R : Rule P) where
     costs (f then fs) = cost f ∷ costs fs
 
   pub same_le : (p : P) → R.Le p p
-  same_le p = go (R.test p p)
-    where
-      go : Dec (R.Le p p) → R.Le p p
-      go (yes h) = h
-      go (no n) = R.total p p n
+  same_le p = total_same R.Le R.test R.total p

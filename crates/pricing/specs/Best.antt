@@ -1,9 +1,9 @@
 -- The best node of a class by the prices in the scratch part: `choose`, `better` and `class_best` promise what `better` and `best` of Pass (price) say. The nodes of
 -- a class are walked from the last back, so a node that is met is better than what was met before it if its price is no greater.
 -- Assumes nothing.
-use Rattle.std.specs.Prelude.{None, Ok, Result, Some, ◌≢◌, ◌≡◌, length, Option}
+use Rattle.std.specs.Prelude.{None, Ok, Result, Some, ◌≡◌, length, IfSome, Option}
 use Rattle.broken.specs.declared.Broken.{Broken}
-use Rattle.broken.specs.Words.{broken}
+use Rattle.broken.specs.Words.{broken, err≢ok}
 use mathlib.Core.List.{[], ◌∷◌}
 use Rattle.std.proofs.Common.{◌∙◌, subst, sym}
 use Rattle.std.proofs.Math.Path.{refl}
@@ -23,20 +23,16 @@ use Rattle.layout.specs.View.{View}
 use Rattle.layout.specs.declared.Head.{Head}
 use Rattle.price.specs.Pass.{Best, Table, best, better, priced, prices}
 use Rattle.price.specs.Size.{AstSize, cap}
-use Rattle.pricing.specs.Entries.{As, Names, Prices}
+use Rattle.pricing.specs.Entries.{IdBelow, Means, Names, Prices}
 use Rattle.language.specs.declared.Node.{Node}
 use Rattle.pricing.specs.Node.{CostsNode}
 use Rattle.pricing.specs.declared.Entry.{Entry}
 
--- an entry says what an option says
-abbrev pub Means : Graph → Entry → Option (Best ℕ) → Type 0
-Means g e o = As g e.mark e.price o
-
 -- ---- one node against the best of those behind it
 
-pub record Chooses (b : Entry) (price id : ℕ) (r : Entry) : Type 0 where
-  pub low : (k : ℕ) → b.mark ≤ k → id < k → r.mark ≤ k
-  pub law : (g : Graph) (o : Option (Best ℕ)) → id < ids g → Means g b o → Means g r (better AstSize (key_of g id) (Some price) o)
+pub record Chooses (b : Option Entry) (price id : ℕ) (r : Entry) : Type 0 where
+  pub low : (n : ℕ) → IdBelow n b → id < n → r.id.0 < n
+  pub law : (g : Graph) (o : Option (Best ℕ)) → id < ids g → Means g b o → Means g (Some r) (better AstSize (key_of g id) (Some price) o)
 
 -- prices of 64 bits are below the cap
 pub no_more : (p q : ℕ) → p < 2 ^ 64 → q < 2 ^ 64 → p ≤ q → min p cap ≤ min q cap
@@ -47,35 +43,33 @@ pub more : (p q : ℕ) → p < 2 ^ 64 → q < 2 ^ 64 → q < p → min p cap ≤
 unfolding cap
 more p q a b h k = omega arith
 
-module _ (b : Entry) (price id : ℕ) (small : price < 2 ^ 64) where
-  names : (g : Graph) → id < ids g → Names g (id + 1) price (record { price = price; node = key_of g id })
-  names g l = record { id = id; marked = omega arith; known = l; price_is = refl; small = small; node_is = refl }
+module _ (b : Option Entry) (price id : ℕ) (small : price < 2 ^ 64) where
+  abbrev new : Entry
+  new = record { id = record { 0 = id }; price = price }
 
-  pub choose_first : b.mark ≡ 0 → Chooses b price id (record { mark = id + 1; price = price })
-  unfolding better
-  choose_first z = record { low = λ k l m. omega arith; law = go }
-    where
-      go : (g : Graph) (o : Option (Best ℕ)) → id < ids g → Means g b o → As g (id + 1) price (better AstSize (key_of g id) (Some price) o)
-      go g None l M = names g l
-      go g (Some a) l M = absurd (omega (arith, M.marked))
+  names : (g : Graph) → id < ids g → Names g new (record { price = price; node = key_of g id })
+  names g l = record { known = l; price_is = refl; small = small; node_is = refl }
 
-  pub choose_new : b.mark ≢ 0 → price ≤ b.price → Chooses b price id (record { mark = id + 1; price = price })
+  pub choose_new : IfSome b (λ e. price ≤ e.price) → Chooses b price id new
   unfolding better
-  choose_new z h = record { low = λ k l m. omega arith; law = go }
+  choose_new h = record { low = λ n l m. m; law = λ g o l M. go g b o h l M }
     where
-      go : (g : Graph) (o : Option (Best ℕ)) → id < ids g → Means g b o → As g (id + 1) price (better AstSize (key_of g id) (Some price) o)
-      go g None l M = absurd (z M)
-      go g (Some a) l M =
+      go : (g : Graph) (b : Option Entry) (o : Option (Best ℕ)) → IfSome b (λ e. price ≤ e.price) → id < ids g → Means g b o
+          → Means g (Some new) (better AstSize (key_of g id) (Some price) o)
+      go g None None h l M = names g l
+      go g None (Some a) h l M = absurd M
+      go g (Some e) None h l M = absurd M
+      go g (Some e) (Some a) h l M =
           let q : min price cap ≤ min a.price cap = no_more price a.price small (omega (arith, M.small, M.price_is)) (omega (arith, M.price_is)) in
           rw (when_yes (dec_le (min price cap) (min a.price cap)) (Some (record { price = price; node = key_of g id })) (Some a) q) (names g l)
 
-  pub choose_old : b.mark ≢ 0 → b.price < price → Chooses b price id b
+  pub choose_old : (e : Entry) → b ≡ Some e → e.price < price → Chooses b price id e
   unfolding better
-  choose_old z h = record { low = λ k l m. l; law = go }
+  choose_old e is h = record { low = λ n l m. rw is at l; law = λ g o l M. go g o (rw is at M) }
     where
-      go : (g : Graph) (o : Option (Best ℕ)) → id < ids g → Means g b o → Means g b (better AstSize (key_of g id) (Some price) o)
-      go g None l M = absurd (z M)
-      go g (Some a) l M =
+      go : (g : Graph) (o : Option (Best ℕ)) → Means g (Some e) o → Means g (Some e) (better AstSize (key_of g id) (Some price) o)
+      go g None M = absurd M
+      go g (Some a) M =
           let q : min price cap ≤ min a.price cap → ⊥ = more price a.price small (omega (arith, M.small, M.price_is)) (omega (arith, M.price_is)) in
           rw (when_no (dec_le (min price cap) (min a.price cap)) (Some (record { price = price; node = key_of g id })) (Some a) q) M
 
@@ -83,17 +77,14 @@ module _ (b : Entry) (price id : ℕ) (small : price < 2 ^ 64) where
 abbrev pub better_of : Table ℕ → Term → Option (Best ℕ) → Option (Best ℕ)
 better_of t x o = better AstSize x (priced AstSize x (prices t x.kids)) o
 
-pub record Betters (h : Head) (id : ℕ) (b : Entry) (v : View) (r : Result Entry Broken) : Type 0 where
-  pub low : (e : Entry) → r ≡ Ok e → e.mark ≤ h.n
+pub record Betters (h : Head) (id : ℕ) (b : Option Entry) (v : View) (r : Result (Option Entry) Broken) : Type 0 where
+  pub low : (e : Option Entry) → r ≡ Ok e → IdBelow h.n e
   pub law : (g : Graph) (t : Table ℕ) (o : Option (Best ℕ)) → Classed h v g → Prices g h.n v.scratch t → id < ids g → Means g b o
-      → (e : Entry) × (r ≡ Ok e) × Means g e (better_of t (key_of g id) o)
+      → (e : Option Entry) × (r ≡ Ok e) × Means g e (better_of t (key_of g id) o)
 
-broken_is : {A : Type 0} (e : Entry) → broken ≡ Ok e → A
-broken_is e q = zero_one cc
-
-module _ (h : Head) (id : ℕ) (b : Entry) (v : View) (f : Result Node Broken) (F : RootNode h v id f) where
+module _ (h : Head) (id : ℕ) (b : Option Entry) (v : View) (f : Result Node Broken) (F : RootNode h v id f) where
   pub better_unread : f ≡ broken → Betters h id b v broken
-  better_unread q = record { low = λ e p. broken_is e p; law = λ g t m C P lt M. absurd (F.lost q (classed_node C id lt).0) }
+  better_unread q = record { low = λ e p. err≢ok p; law = λ g t m C P lt M. absurd (F.lost q (classed_node C id lt).0) }
 
   module _ (x : Node) (is : f ≡ Ok x) (c : Result (Option ℕ) Broken) (N : CostsNode h.n h.ids v.scratch (node_of x) c) where
     -- the price of the node, as the table gives it
@@ -107,14 +98,11 @@ module _ (h : Head) (id : ℕ) (b : Entry) (v : View) (f : Result Node Broken) (
 
     pub better_broken : c ≡ broken → Betters h id b v broken
     better_broken q = record {
-      low = λ e p. broken_is e p;
-      law = λ g t o C P lt M. absurd (apart (sym q ∙ costs g t C P lt));
+      low = λ e p. err≢ok p;
+      law = λ g t o C P lt M. err≢ok (sym q ∙ costs g t C P lt);
     }
-      where
-        apart : {o : Option ℕ} → broken ≡ Ok o → ⊥
-        apart e = zero_one cc
 
-    pub better_none : b.mark ≤ h.n → c ≡ Ok None → Betters h id b v (Ok b)
+    pub better_none : IdBelow h.n b → c ≡ Ok None → Betters h id b v (Ok b)
     unfolding better
     better_none lo q = record {
       low = λ e p. let z : b ≡ e = cc in rw (← z) lo;
@@ -125,50 +113,59 @@ module _ (h : Head) (id : ℕ) (b : Entry) (v : View) (f : Result Node Broken) (
         go g x o None e M = M
         go g x o (Some p) e M = zero_one cc
 
-    pub better_priced : (p : ℕ) (r : Entry) → id < h.n → b.mark ≤ h.n → c ≡ Ok (Some p) → Chooses b p id r → Betters h id b v (Ok r)
+    pub better_priced : (p : ℕ) (r : Entry) → id < h.n → IdBelow h.n b → c ≡ Ok (Some p) → Chooses b p id r → Betters h id b v (Ok (Some r))
     better_priced p r li lo q K = record {
-      low = λ e w. let z : r ≡ e = cc in rw (← z) (K.low h.n lo li);
-      law = λ g t o C P lt M. (r, refl, go g o lt (priced AstSize (key_of g id) (prices t (key_of g id).kids)) (sym q ∙ costs g t C P lt) M);
+      low = λ e w. let z : Some r ≡ e = cc in rw (← z) (K.low h.n lo li);
+      law = λ g t o C P lt M. (Some r, refl, go g o lt (priced AstSize (key_of g id) (prices t (key_of g id).kids)) (sym q ∙ costs g t C P lt) M);
     }
       where
-        go : (g : Graph) (o : Option (Best ℕ)) → id < ids g → (m : Option ℕ) → ◌≡◌ {A = Result (Option ℕ) Broken} (Ok (Some p)) (Ok m) → Means g b o → Means g r (better AstSize (key_of g id) m o)
+        go : (g : Graph) (o : Option (Best ℕ)) → id < ids g → (m : Option ℕ) → ◌≡◌ {A = Result (Option ℕ) Broken} (Ok (Some p)) (Ok m) → Means g b o
+            → Means g (Some r) (better AstSize (key_of g id) m o)
         go g o l None e M = zero_one cc
         go g o l (Some k) e M = let z : p ≡ k = cc in rw (← z) (K.law g o l M)
 
 -- ---- all nodes of a class
 
-pub record BestOf (h : Head) (a : ℕ) (v : View) (r : Result Entry Broken) : Type 0 where
-  pub low : (e : Entry) → r ≡ Ok e → e.mark ≤ h.n
+pub record BestOf (h : Head) (a : ℕ) (v : View) (r : Result (Option Entry) Broken) : Type 0 where
+  pub low : (e : Option Entry) → r ≡ Ok e → IdBelow h.n e
   pub law : (g : Graph) (t : Table ℕ) → Classed h v g → Prices g h.n v.scratch t
-      → (e : Entry) × (r ≡ Ok e) × Means g e (best AstSize t (class_nodes g a))
+      → (e : Option Entry) × (r ≡ Ok e) × Means g e (best AstSize t (class_nodes g a))
 
--- on its way back from the cursor `from`: of the class that `from` was at the end of, the nodes from the place of `cur` on are behind, and b is the best of them
-pub record Walking (h : Head) (v : View) (from cur : Cursor) (b : Entry) : Type 0 where
-  pub low : b.mark ≤ h.n
+-- i steps back from the cursor `from`, of as many as it has left: of the class that `from` was at the end of, the nodes from the place of `cur` on are
+-- behind, and b is the best of them
+pub record Walking (h : Head) (v : View) (from cur : Cursor) (i : ℕ) (b : Option Entry) : Type 0 where
+  pub passed : i + cur.left ≡ from.left
+  pub low : IdBelow h.n b
   pub known : Known h cur
   pub stands : (a : ℕ) → Stands h v a from → Stands h v a cur
   pub law : (a : ℕ) → Stands h v a from → (g : Graph) (t : Table ℕ) → Classed h v g → Prices g h.n v.scratch t → from.left ≡ length (class_nodes g a)
       → Means g b (best AstSize t (drop cur.left (class_nodes g a)))
 
 module _ (h : Head) (v : View) (from : Cursor) where
-  pub walk_start : Known h from → Walking h v from from (record { mark = 0; price = 0 })
+  pub walk_start : Known h from → Walking h v from from 0 None
   unfolding best
-  walk_start k = record { low = omega arith; known = k; stands = λ a S. S; law = λ a S g t C P e. rw (e, drop-length (class_nodes g a)) refl }
+  walk_start k = record { passed = omega arith; low = tt; known = k; stands = λ a S. S; law = λ a S g t C P e. rw (e, drop-length (class_nodes g a)) tt }
 
-  module _ (cur : Cursor) (b : Entry) (W : Walking h v from cur b) (left : 0 < cur.left) (r : Result Entry Broken) (B : Betters h cur.id.0 b v r) where
+  -- there is a node at the cursor as long as fewer steps are made than there were nodes
+  pub walk_left : (cur : Cursor) (i : ℕ) (b : Option Entry) → Walking h v from cur i b → i < from.left → 0 < cur.left
+  walk_left cur i b W lt = omega (arith, W.passed)
+
+  module _ (cur : Cursor) (i : ℕ) (b : Option Entry) (W : Walking h v from cur i b) (lt : i < from.left)
+      (r : Result (Option Entry) Broken) (B : Betters h cur.id.0 b v r) where
     -- the node at the cursor is looked at
     looked : (a : ℕ) → Stands h v a from → (g : Graph) (t : Table ℕ) → Classed h v g → Prices g h.n v.scratch t → from.left ≡ length (class_nodes g a)
-        → (e : Entry) × (r ≡ Ok e) × Means g e (best AstSize t (drop (cur.left - 1) (class_nodes g a)))
+        → (e : Option Entry) × (r ≡ Ok e) × Means g e (best AstSize t (drop (cur.left - 1) (class_nodes g a)))
     unfolding best
     looked a F g t C P l =
         let S = W.stands a F in
-        let s : suc (cur.left - 1) ≡ cur.left = omega arith in
+        let s : suc (cur.left - 1) ≡ cur.left = omega (arith, W.passed) in
         let d : drop (cur.left - 1) (class_nodes g a) ≡ key_of g cur.id.0 ∷ drop cur.left (class_nodes g a) =
         drop-cons (class_nodes g a) (cur.left - 1) (record { op = 0; payload = 0; kids = [] }) (omega (arith, stands_few C a cur S)) ∙ rw (s, stands_node C a cur S (cur.left - 1) s) refl in
         rw d (B.law g t (best AstSize t (drop cur.left (class_nodes g a))) C P (stands_known C a cur S (cur.left - 1) s) (W.law a F g t C P l))
 
-    pub walk_more : (o : Result Cursor Broken) → Previous h v cur o → (e : Entry) (to : Cursor) → r ≡ Ok e → o ≡ Ok to → Walking h v from to e
+    pub walk_more : (o : Result Cursor Broken) → Previous h v cur o → (e : Option Entry) (to : Cursor) → r ≡ Ok e → o ≡ Ok to → Walking h v from to (i + 1) e
     walk_more o O e to q p = record {
+      passed = omega (arith, W.passed, O.fewer to p);
       low = B.low e q;
       known = O.known to p;
       stands = λ a S. O.stands to p a (W.stands a S);
@@ -178,23 +175,23 @@ module _ (h : Head) (v : View) (from : Cursor) where
 -- the walk that `class_nodes` starts
 module _ (h : Head) (a : ℕ) (v : View) (r : Result Cursor Broken) (N : ClassNodes h v a r) where
   pub best_unread : r ≡ broken → BestOf h a v broken
-  best_unread q = record { low = λ e p. broken_is e p; law = λ g t C P. absurd (N.sound q g C) }
+  best_unread q = record { low = λ e p. err≢ok p; law = λ g t C P. absurd (N.sound q g C) }
 
-  module _ (from : Cursor) (is : r ≡ Ok from) (cur : Cursor) (b : Entry) (W : Walking h v from cur b) where
+  module _ (from : Cursor) (is : r ≡ Ok from) (cur : Cursor) (i : ℕ) (b : Option Entry) (W : Walking h v from cur i b) where
     stood : Stands h v a from
     stood = N.stands from is
 
-    pub best_broken : 0 < cur.left → (o : Result Entry Broken) → Betters h cur.id.0 b v o → o ≡ broken → BestOf h a v broken
+    pub best_broken : i < from.left → (o : Result (Option Entry) Broken) → Betters h cur.id.0 b v o → o ≡ broken → BestOf h a v broken
     best_broken l o B q = record {
-      low = λ e p. broken_is e p;
-      law = λ g t C P. let k = looked h v from cur b W l o B a stood g t C P (N.all from is g C) in absurd (broken_is k.0 (sym q ∙ k.1));
+      low = λ e p. err≢ok p;
+      law = λ g t C P. let k = looked h v from cur i b W l o B a stood g t C P (N.all from is g C) in err≢ok (sym q ∙ k.1);
     }
 
     pub best_lost : (o : Result Cursor Broken) → Previous h v cur o → o ≡ broken → BestOf h a v broken
-    best_lost o O q = record { low = λ e p. broken_is e p; law = λ g t C P. absurd (O.sound q a (W.stands a stood) g C) }
+    best_lost o O q = record { low = λ e p. err≢ok p; law = λ g t C P. absurd (O.sound q a (W.stands a stood) g C) }
 
-    pub best_all : cur.left ≡ 0 → BestOf h a v (Ok b)
-    best_all z = record {
+    pub best_all : from.left ≤ i → BestOf h a v (Ok b)
+    best_all le = let z : cur.left ≡ 0 = omega (arith, W.passed) in record {
       low = λ e p. let q : b ≡ e = cc in rw (← q) W.low;
       law = λ g t C P. (b, refl, rw z at (W.law a stood g t C P (N.all from is g C)));
     }

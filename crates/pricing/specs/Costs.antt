@@ -3,14 +3,14 @@
 -- Assumes nothing.
 use Rattle.std.specs.Prelude.{Err, Ok, Result, is_err, true, List, [], ◌≢◌, ◌⊎◌, ◌≡◌, refl, ◌*◌, ◌+◌, ◌<◌, ◌≤◌, suc, ℕ, length}
 use Rattle.broken.specs.declared.Broken.{Broken}
-use Rattle.broken.specs.Words.{broken}
+use Rattle.broken.specs.Words.{broken, err≢ok}
 use Rattle.std.proofs.Common.{inl, inr, ◌∙◌, ap, sym, arith}
 use Rattle.std.proofs.Math.Decide.{ℕ_discrete}
 use Rattle.lists.specs.Tests.{zero_one}
 use Rattle.lists.specs.Keeps.{length_filter, length_upto, upto}
 use Rattle.steps.specs.Classes.{class_nodes, class_roots, total_number_of_nodes}
 use Rattle.steps.specs.Graph.{Graph, ids, root}
-use Rattle.egraph.specs.Answers.{count_says, never, number_of}
+use Rattle.egraph.specs.Answers.{never, number_of}
 use Rattle.egraph.specs.ClassLists.{TotalSays, total_held}
 use Rattle.egraph.specs.ClassReads.{KidsKnown, classed, classed_ids, classed_lent, classed_listed, scratch_clear}
 use Rattle.egraph.specs.declared.Refusal.{Refusal}
@@ -25,7 +25,7 @@ use Rattle.price.specs.Pass.{Passes as Run, Table, done, more, pass}
 use Rattle.price.specs.Size.{AstSize}
 use Rattle.pricing.specs.Entries.{Prices, prices_none}
 use Rattle.pricing.specs.Pass.{Passes}
-use Rattle.pricing.specs.Turn.{Scratched, Took, scratched_then, taken_broken}
+use Rattle.pricing.specs.Turn.{Scratched, Took, scratched_then}
 
 pub record FindsCosts (h : Head) (ws : List ℕ) (r : Result Unit Broken) (ws' : List ℕ) : Type 0 where
   pub only : Scratched h.n h.m ws ws'
@@ -78,7 +78,7 @@ module _ (h : Head) (ws : List ℕ) (q : HeadIs (length ws) (hd ws) h) where
     pub costs_broken : r ≡ broken → FindsCosts h ws broken ws2
     costs_broken e = record {
       only = scratched_then A.only B.only;
-      law = λ g H c K. let T = took g H c K (A.law g H c K) in taken_broken T.count (sym e ∙ T.is);
+      law = λ g H c K. let T = took g H c K (A.law g H c K) in err≢ok (sym e ∙ T.is);
     }
 
     -- nothing taken: the table is as it was, and the passes end there

@@ -1,20 +1,22 @@
 -- The price of a node by the prices in the scratch part: 1 and the prices of its children's classes, added left to right, saturating; none if a child has none.
 -- `CostsNode` is what `node_total_cost` promises; `Adding` is what its loop has done after i children.
 -- Assumes nothing.
-use Rattle.std.specs.Prelude.{None, Ok, Result, Some, List, ◌≢◌, ◌≡◌, ◌+◌, ◌<◌, ◌≤◌, min, suc, ℕ, drop, length, Option}
+use Rattle.std.specs.Prelude.{None, Ok, Result, Some, List, ◌≡◌, ◌+◌, ◌<◌, ◌≤◌, min, suc, ℕ, drop, get_or, length, map, Option}
 use Rattle.broken.specs.declared.Broken.{Broken}
 use Rattle.broken.specs.Words.{broken}
 use Rattle.std.proofs.Common.{◌∙◌, ap, add-one, arith}
 use Rattle.std.proofs.Math.Path.{refl, sym}
+use Rattle.std.proofs.Math.ListN.{get_or-map, length-map}
 use Rattle.std.proofs.Math.Seq.{drop-cons, drop-length}
 use Rattle.lists.specs.Reads.{at}
 use Rattle.language.specs.Term.{Term}
+use Rattle.language.specs.declared.Id.{Id}
 use Rattle.steps.specs.Graph.{Graph}
 use Rattle.egraph.specs.ClassReads.{KidsIn}
 use Rattle.price.specs.Adding.{add_on}
 use Rattle.price.specs.Pass.{Best, Table, look, priced, prices, with_price}
 use Rattle.price.specs.Size.{AstSize, Capped, cap}
-use Rattle.pricing.specs.Entries.{As, EntryAt, Prices, entry_as}
+use Rattle.pricing.specs.Entries.{EntryAt, Means, Prices, entry_as}
 use Rattle.pricing.specs.declared.Entry.{Entry}
 
 -- what `node_total_cost` promises
@@ -49,33 +51,53 @@ module _ (n N : ℕ) (ss : List ℕ) (x : Term) where
   pub adding_start : Adding n N ss x 0 1
   adding_start = record { law = λ g t P K. priced_onto x (prices t x.kids) }
 
-  module _ (i a c : ℕ) (e : Entry) (A : Adding n N ss x i a) (hi : i < length x.kids) (is : c ≡ at x.kids i) (lt : c < n) (E : EntryAt n ss c e) where
-    -- the prices from place i on
-    split : (t : Table ℕ) → prices t (drop i x.kids) ≡ with_price (look c t) (prices t (drop (suc i) x.kids))
-    unfolding prices
-    split t = rw (is, drop-cons x.kids i 0 hi) refl
+  -- ks are the children, as the loop goes over them
+  module _ (ks : List Id) (e : map (λ (k : Id). k.0) ks ≡ x.kids) where
+    many : length ks ≡ length x.kids
+    many = sym (length-map ks (λ (k : Id). k.0)) ∙ ap length e
 
-    pub adding_more : (a' : ℕ) → e.mark ≢ 0 → a' ≡ min (a + e.price) cap → Adding n N ss x (i + 1) a'
-    adding_more a' some_mark q = record { law = λ g t P K. A.law g t P K ∙ ap (onto a) (split t) ∙ go g t (look c t) (entry_as g n ss t c e P lt E) }
+    -- the one at place i is in hand
+    module _ (i : ℕ) (hi : i < length ks) where
+      kid : Id
+      kid = get_or ks i (record { 0 = 0 })
+
+      its : kid.0 ≡ at x.kids i
+      unfolding kid
+      its = sym (get_or-map (λ (k : Id). k.0) ks i (record { 0 = 0 })) ∙ ap (λ (l : List ℕ). at l i) e
+
+      pub cost_stray : N ≤ (get_or ks i (record { 0 = 0 })).0 → CostsNode n N ss x broken
+      unfolding kid
+      cost_stray off = record { law = λ g t P K. absurd (omega (arith, many, its, K i (omega (arith, many)))) }
+
+      module _ (a : ℕ) (A : Adding n N ss x i a) (lt : (get_or ks i (record { 0 = 0 })).0 < N) (le : N ≤ n)
+          (r : Option Entry) (E : EntryAt n ss (get_or ks i (record { 0 = 0 })).0 r) where
+        -- the prices from place i on
+        split : (t : Table ℕ) → prices t (drop i x.kids) ≡ with_price (look kid.0 t) (prices t (drop (suc i) x.kids))
+        unfolding prices
+        split t = rw (its, drop-cons x.kids i 0 (omega (arith, many))) refl
+
+        means : (g : Graph) (t : Table ℕ) → Prices g n ss t → Means g r (look kid.0 t)
+        unfolding kid
+        means g t P = entry_as g n ss t kid.0 r P (omega arith) E
+
+        pub adding_more : (e : Entry) → r ≡ Some e → (a' : ℕ) → a' ≡ min (a + e.price) cap → Adding n N ss x (i + 1) a'
+        adding_more e some a' q = record { law = λ g t P K. A.law g t P K ∙ ap (onto a) (split t) ∙ go g t (look kid.0 t) (rw some at (means g t P)) }
+          where
+            go : (g : Graph) (t : Table ℕ) (o : Option (Best ℕ)) → Means g (Some e) o
+                → onto a (with_price o (prices t (drop (suc i) x.kids))) ≡ onto a' (prices t (drop (i + 1) x.kids))
+            go g t None M = absurd M
+            go g t (Some b) M = rw (add-one i, q, M.price_is) (onto_more a b (prices t (drop (suc i) x.kids)))
+
+        pub cost_none : r ≡ None → CostsNode n N ss x (Ok None)
+        cost_none z = record { law = λ g t P K. sym (ap Ok (A.law g t P K ∙ ap (onto a) (split t) ∙ go g t (look kid.0 t) (rw z at (means g t P)))) }
+          where
+            go : (g : Graph) (t : Table ℕ) (o : Option (Best ℕ)) → Means g None o → onto a (with_price o (prices t (drop (suc i) x.kids))) ≡ None
+            go g t None M = onto_none a (prices t (drop (suc i) x.kids))
+            go g t (Some b) M = absurd M
+
+    pub cost_all : (i a : ℕ) → i ≡ length ks → Adding n N ss x i a → CostsNode n N ss x (Ok (Some a))
+    unfolding prices add_on
+    cost_all i a q A = record { law = λ g t P K. sym (ap Ok (A.law g t P K ∙ last t)) }
       where
-        go : (g : Graph) (t : Table ℕ) (o : Option (Best ℕ)) → As g e.mark e.price o
-            → onto a (with_price o (prices t (drop (suc i) x.kids))) ≡ onto a' (prices t (drop (i + 1) x.kids))
-        go g t None z = absurd (some_mark z)
-        go g t (Some b) N = rw (add-one i, q, N.price_is) (onto_more a b (prices t (drop (suc i) x.kids)))
-
-    pub cost_none : e.mark ≡ 0 → CostsNode n N ss x (Ok None)
-    cost_none z = record { law = λ g t P K. sym (ap Ok (A.law g t P K ∙ ap (onto a) (split t) ∙ go g t (look c t) (entry_as g n ss t c e P lt E))) }
-      where
-        go : (g : Graph) (t : Table ℕ) (o : Option (Best ℕ)) → As g e.mark e.price o → onto a (with_price o (prices t (drop (suc i) x.kids))) ≡ None
-        go g t None w = onto_none a (prices t (drop (suc i) x.kids))
-        go g t (Some b) N = absurd (omega (arith, N.marked))
-
-  pub cost_stray : (i c : ℕ) → i < length x.kids → c ≡ at x.kids i → N ≤ c → CostsNode n N ss x broken
-  cost_stray i c hi is off = record { law = λ g t P K. absurd (omega (arith, K i hi)) }
-
-  pub cost_all : (i a : ℕ) → i ≡ length x.kids → Adding n N ss x i a → CostsNode n N ss x (Ok (Some a))
-  unfolding prices add_on
-  cost_all i a e A = record { law = λ g t P K. sym (ap Ok (A.law g t P K ∙ last t)) }
-    where
-      last : (t : Table ℕ) → onto a (prices t (drop i x.kids)) ≡ Some a
-      last t = rw (e, drop-length x.kids) refl
+        last : (t : Table ℕ) → onto a (prices t (drop i x.kids)) ≡ Some a
+        last t = rw (q, many, drop-length x.kids) refl

@@ -3,7 +3,7 @@
 -- Assumes nothing.
 use Rattle.std.specs.Prelude.{Ok, Result, ◌≡◌, ◌+◌, suc, ℕ, length}
 use Rattle.broken.specs.declared.Broken.{Broken}
-use Rattle.broken.specs.Words.{broken}
+use Rattle.broken.specs.Words.{broken, err≢ok}
 use mathlib.Core.List.{List, [], ◌++◌, ◌∷◌, filter}
 use Rattle.std.proofs.Math.Logic.{ite}
 use Rattle.std.proofs.Common.{◌∙◌, sym, add-one}
@@ -23,7 +23,7 @@ use Rattle.layout.specs.declared.Head.{Head}
 use Rattle.price.specs.Pass.{Table, accept, best, pass, turn}
 use Rattle.price.specs.Size.{AstSize}
 use Rattle.pricing.specs.Entries.{Prices}
-use Rattle.pricing.specs.Turn.{Scratched, Took, Turns, scratched_then, taken_broken}
+use Rattle.pricing.specs.Turn.{Scratched, Took, Turns, scratched_then}
 
 -- ---- over plain lists
 
@@ -104,7 +104,7 @@ module _ (h : Head) (ws : List ℕ) where
     pub pass_broken : r ≡ broken → Passes h ws broken ws2
     pass_broken e = record {
       only = scratched_then A.only B.only;
-      law = λ g t C P. let T = took g t C P in taken_broken T.count (sym e ∙ T.is);
+      law = λ g t C P. let T = took g t C P in err≢ok (sym e ∙ T.is);
     }
 
   pub pass_done : (i k : ℕ) (ws' : List ℕ) → i ≡ h.ids → Passing h i k ws ws' → Passes h ws (Ok k) ws'

@@ -1,18 +1,19 @@
 -- One class's turn: the best of its nodes is taken if the class has none yet, or if its price is strictly less. `accepts` promises what `accept` of Pass (price) says,
 -- and `turn` what `turn` says, with the number of entries by which the table has grown.
 -- Assumes nothing.
-use Rattle.std.specs.Prelude.{Ok, Result, Bool, false, true, List, ◌∷◌, ◌≢◌, ◌≡◌, Option, None, Some}
+use Rattle.std.specs.Prelude.{Ok, Result, Bool, cond, nat_lt, false, true, List, ◌⊎◌, ◌∷◌, ◌≡◌, Option, None, Some}
 use Rattle.broken.specs.declared.Broken.{Broken}
-use Rattle.broken.specs.Words.{broken}
-use Rattle.std.proofs.Common.{◌∙◌, subst, sym}
+use Rattle.broken.specs.Words.{broken, err≢ok}
+use Rattle.std.proofs.Common.{inl, inr, ◌∙◌, subst, sym}
 use Rattle.std.proofs.Math.Path.{ap, refl}
+use Rattle.std.proofs.lemmas.Bool.{le-ltb, lt-ltb}
 use Prim.Native.Nat.{◌*◌, ◌+◌, ◌<◌, ◌≤◌, min, ℕ}
 use Rattle.std.proofs.Math.Decide.{dec_le}
 use native.Mathlib.Omega.{arith}
 use Rattle.std.proofs.Math.ListN.{length}
 use Rattle.lists.specs.Reads.{at}
 use Rattle.lists.specs.Stores.{puts_miss}
-use Rattle.lists.specs.Tests.{when_no, when_yes, zero_one}
+use Rattle.lists.specs.Tests.{lt_or, when_no, when_yes}
 use Rattle.steps.specs.Classes.{class_nodes}
 use Rattle.steps.specs.Graph.{Graph}
 use Rattle.egraph.specs.ClassReads.{Classed}
@@ -24,67 +25,41 @@ use Rattle.layout.proofs.Sizes.{get_length}
 use Rattle.layout.specs.declared.Head.{Head}
 use Rattle.price.specs.Pass.{Best, Table, accept, best, look, turn}
 use Rattle.price.specs.Size.{AstSize, cap}
-use Rattle.pricing.specs.Best.{BestOf, Means, more, no_more}
-use Rattle.pricing.specs.Entries.{EntryAt, Keeps, Names, Prices, entry_as, prices_more, stores}
+use Rattle.pricing.specs.Best.{BestOf, more, no_more}
+use Rattle.pricing.specs.Entries.{EntryAt, Keeps, Means, Names, Prices, entry_as, prices_more, stores}
 use Rattle.pricing.specs.declared.Entry.{Entry}
 
 -- ---- what is accepted
 
--- b is proposed, and is taken: whatever the class and the table
-pub record Takes (g : Graph) (new : Entry) (old prop : Option (Best ℕ)) : Type 0 where
-  pub best : Best ℕ
-  pub named : Names g new.mark new.price best
-  pub grown : (r : ℕ) (t : Table ℕ) → accept AstSize r old prop t ≡ (r, best) ∷ t
+-- b says whether what is proposed is taken, where `old` says what the class has, and `new` names what is proposed
+pub record Accepts (old : Option Entry) (new : Entry) (b : Bool) : Type 0 where
+  pub law : (g : Graph) (o : Option (Best ℕ)) (p : Best ℕ) → Means g old o → Names g new p
+      → (r : ℕ) (t : Table ℕ) → accept AstSize r o (Some p) t ≡ cond b ((r, p) ∷ t) t
 
-pub record Accepts (old new : Entry) (b : Bool) : Type 0 where
-  pub yes_law : b ≡ true → (g : Graph) (o p : Option (Best ℕ)) → Means g old o → Means g new p → Takes g new o p
-  pub no_law : b ≡ false → (g : Graph) (o p : Option (Best ℕ)) → Means g old o → Means g new p → (r : ℕ) (t : Table ℕ) → accept AstSize r o p t ≡ t
-
-true_false : {A : Type 0} → ◌≡◌ {A = Bool} true false → A
-true_false e = zero_one cc
-
-module _ (old new : Entry) where
-  pub accept_nothing : new.mark ≡ 0 → Accepts old new false
+module _ (old : Option Entry) (new : Entry) where
+  pub accept_first : old ≡ None → Accepts old new true
   unfolding accept
-  accept_nothing z = record { yes_law = λ e. true_false (sym e); no_law = λ e. go }
+  accept_first z = record { law = λ g o p M N. go g o p (rw z at M) }
     where
-      go : (g : Graph) (o p : Option (Best ℕ)) → Means g old o → Means g new p → (r : ℕ) (t : Table ℕ) → accept AstSize r o p t ≡ t
-      go g o None M N r t = refl
-      go g o (Some b) M N r t = absurd (omega (arith, N.marked))
+      go : (g : Graph) (o : Option (Best ℕ)) (p : Best ℕ) → Means g None o → (r : ℕ) (t : Table ℕ) → accept AstSize r o (Some p) t ≡ (r, p) ∷ t
+      go g None p M r t = refl
+      go g (Some a) p M r t = absurd M
 
-  pub accept_first : new.mark ≢ 0 → old.mark ≡ 0 → Accepts old new true
+  pub accept_less : (e : Entry) → old ≡ Some e → Accepts old new (nat_lt new.price e.price)
   unfolding accept
-  accept_first n z = record { yes_law = λ e. go; no_law = λ e. true_false e }
+  accept_less e is = record { law = λ g o p M N r t. go g o p (rw is at M) N r t (lt_or new.price e.price) }
     where
-      go : (g : Graph) (o p : Option (Best ℕ)) → Means g old o → Means g new p → Takes g new o p
-      go g o None M N = absurd (n N)
-      go g None (Some b) M N = record { best = b; named = N; grown = λ r t. refl }
-      go g (Some a) (Some b) M N = absurd (omega (arith, M.marked))
-
-  module _ (n : new.mark ≢ 0) (w : old.mark ≢ 0) where
-    pub accept_less : new.price < old.price → Accepts old new true
-    unfolding accept
-    accept_less l = record { yes_law = λ e. go; no_law = λ e. true_false e }
-      where
-        go : (g : Graph) (o p : Option (Best ℕ)) → Means g old o → Means g new p → Takes g new o p
-        go g o None M N = absurd (n N)
-        go g None (Some b) M N = absurd (w M)
-        go g (Some a) (Some b) M N =
-            let q : min a.price cap ≤ min b.price cap → ⊥ =
-            more a.price b.price (omega (arith, M.small, M.price_is)) (omega (arith, N.small, N.price_is)) (omega (arith, M.price_is, N.price_is)) in
-            record { best = b; named = N; grown = λ r t. when_no (dec_le (min a.price cap) (min b.price cap)) t ((r, b) ∷ t) q }
-
-    pub accept_no : old.price ≤ new.price → Accepts old new false
-    unfolding accept
-    accept_no l = record { yes_law = λ e. true_false (sym e); no_law = λ e. go }
-      where
-        go : (g : Graph) (o p : Option (Best ℕ)) → Means g old o → Means g new p → (r : ℕ) (t : Table ℕ) → accept AstSize r o p t ≡ t
-        go g o None M N r t = absurd (n N)
-        go g None (Some b) M N r t = absurd (w M)
-        go g (Some a) (Some b) M N r t =
-            let q : min a.price cap ≤ min b.price cap =
-            no_more a.price b.price (omega (arith, M.small, M.price_is)) (omega (arith, N.small, N.price_is)) (omega (arith, M.price_is, N.price_is)) in
-            when_yes (dec_le (min a.price cap) (min b.price cap)) t ((r, b) ∷ t) q
+      go : (g : Graph) (o : Option (Best ℕ)) (p : Best ℕ) → Means g (Some e) o → Names g new p → (r : ℕ) (t : Table ℕ)
+          → (new.price < e.price) ⊎ (e.price ≤ new.price) → accept AstSize r o (Some p) t ≡ cond (nat_lt new.price e.price) ((r, p) ∷ t) t
+      go g None p M N r t d = absurd M
+      go g (Some a) p M N r t (inl l) =
+          let q : min a.price cap ≤ min p.price cap → ⊥ =
+          more a.price p.price (omega (arith, M.small, M.price_is)) (omega (arith, N.small, N.price_is)) (omega (arith, M.price_is, N.price_is)) in
+          rw (lt-ltb _ _ l) (when_no (dec_le (min a.price cap) (min p.price cap)) t ((r, p) ∷ t) q)
+      go g (Some a) p M N r t (inr l) =
+          let q : min a.price cap ≤ min p.price cap =
+          no_more a.price p.price (omega (arith, M.small, M.price_is)) (omega (arith, N.small, N.price_is)) (omega (arith, M.price_is, N.price_is)) in
+          rw (le-ltb _ _ l) (when_yes (dec_le (min a.price cap) (min p.price cap)) t ((r, p) ∷ t) q)
 
 -- ---- the turn
 
@@ -112,56 +87,66 @@ pub record Turns (h : Head) (a : ℕ) (ws : List ℕ) (r : Result ℕ Broken) (w
   pub law : (g : Graph) (t : Table ℕ) → Classed h (view h.n h.m ws) g → Prices g h.n (view h.n h.m ws).scratch t
       → Took g h.n (view h.n h.m ws').scratch t (turn AstSize (class_nodes g) a t) r
 
-pub taken_broken : {A : Type 0} (k : ℕ) → broken ≡ Ok k → A
-taken_broken k e = zero_one cc
-
-module _ (h : Head) (a : ℕ) (ws : List ℕ) (c : Result Entry Broken) (B : BestOf h a (view h.n h.m ws) c) where
+module _ (h : Head) (a : ℕ) (ws : List ℕ) (c : Result (Option Entry) Broken) (B : BestOf h a (view h.n h.m ws) c) where
   pub turn_broken : c ≡ broken → Turns h a ws broken ws
   turn_broken e = record {
     only = lent_same ws (λ i l. refl);
-    few = λ k p. taken_broken k p;
-    law = λ g t C P. let k = B.law g t C P in absurd (apart k.0 (sym e ∙ k.1));
+    few = λ k p. err≢ok p;
+    law = λ g t C P. let k = B.law g t C P in err≢ok (sym e ∙ k.1);
   }
+
+  -- what is proposed, as the table has it
+  proposed : (x : Option Entry) → c ≡ Ok x → (g : Graph) (t : Table ℕ) → Classed h (view h.n h.m ws) g → Prices g h.n (view h.n h.m ws).scratch t
+      → Means g x (best AstSize t (class_nodes g a))
+  proposed x is g t C P =
+      let k = B.law g t C P in
+      let z : k.0 ≡ x = cc (is, k.1) in
+      subst (λ (x : Option Entry). Means g x (best AstSize t (class_nodes g a))) z k.2
+
+  -- nothing is taken where the table takes nothing
+  kept : ((g : Graph) (t : Table ℕ) → Classed h (view h.n h.m ws) g → Prices g h.n (view h.n h.m ws).scratch t
+      → turn AstSize (class_nodes g) a t ≡ t) → Turns h a ws (Ok 0) ws
+  kept s = record {
+    only = lent_same ws (λ i l. refl);
+    few = λ k p. let z : 0 ≡ k = cc in omega arith;
+    law = λ g t C P. let q = s g t C P in record { count = 0; is = refl; prices = rw q P; grown = ap length q ∙ omega arith };
+  }
+
+  pub turn_none : c ≡ Ok None → Turns h a ws (Ok 0) ws
+  unfolding turn accept
+  turn_none is = kept (λ g t C P. go g t (best AstSize t (class_nodes g a)) (proposed None is g t C P))
     where
-      apart : (x : Entry) → broken ≡ Ok x → ⊥
-      apart x p = zero_one cc
+      go : (g : Graph) (t : Table ℕ) (p : Option (Best ℕ)) → Means g None p → accept AstSize a (look a t) p t ≡ t
+      go g t None M = refl
+      go g t (Some b) M = absurd M
 
-  module _ (new old : Entry) (is : c ≡ Ok new) (ha : a < h.n) (E : EntryAt h.n (view h.n h.m ws).scratch a old) (b : Bool) (A : Accepts old new b) where
-    -- the entry and what is proposed, as the table has them
-    proposed : (g : Graph) (t : Table ℕ) → Classed h (view h.n h.m ws) g → Prices g h.n (view h.n h.m ws).scratch t
-        → Means g new (best AstSize t (class_nodes g a))
-    proposed g t C P =
-        let k = B.law g t C P in
-        let z : k.0 ≡ new = cc (is, k.1) in
-        subst (λ (x : Entry). Means g x (best AstSize t (class_nodes g a))) z k.2
-
+  module _ (new : Entry) (old : Option Entry) (is : c ≡ Ok (Some new)) (ha : a < h.n) (E : EntryAt h.n (view h.n h.m ws).scratch a old)
+      (b : Bool) (A : Accepts old new b) where
     pub turn_kept : b ≡ false → Turns h a ws (Ok 0) ws
     unfolding turn
-    turn_kept e = record {
-      only = lent_same ws (λ i l. refl);
-      few = λ k p. let z : 0 ≡ k = cc in omega arith;
-      law = λ g t C P. same g t P (A.no_law e g (look a t) (best AstSize t (class_nodes g a)) (entry_as g h.n _ t a old P ha E) (proposed g t C P) a t);
-    }
+    turn_kept e = kept (λ g t C P. go g t P (best AstSize t (class_nodes g a)) (proposed (Some new) is g t C P))
       where
-        same : (g : Graph) (t : Table ℕ) → Prices g h.n (view h.n h.m ws).scratch t
-            → accept AstSize a (look a t) (best AstSize t (class_nodes g a)) t ≡ t
-            → Took g h.n (view h.n h.m ws).scratch t (accept AstSize a (look a t) (best AstSize t (class_nodes g a)) t) (Ok 0)
-        same g t P q = record { count = 0; is = refl; prices = rw q P; grown = ap length q ∙ omega arith }
+        go : (g : Graph) (t : Table ℕ) → Prices g h.n (view h.n h.m ws).scratch t → (p : Option (Best ℕ)) → Means g (Some new) p
+            → accept AstSize a (look a t) p t ≡ t
+        go g t P None M = absurd M
+        go g t P (Some p) M = rw e at (A.law g (look a t) p (entry_as g h.n _ t a old P ha E) M a t)
 
     pub turn_taken : (ws' : List ℕ) → need h.n h.m ≤ length ws → b ≡ true → Lent scratch h.n h.m (Keeps h.n a new) ws ws' → Turns h a ws (Ok 1) ws'
     unfolding turn
     turn_taken ws' ok e K = record {
       only = lent_map (λ s s' p i l. rw p (puts_miss (stores h.n a new) s i (omega arith))) K;
       few = λ k p. let z : 1 ≡ k = cc in omega arith;
-      law = λ g t C P. one g t P (A.yes_law e g (look a t) (best AstSize t (class_nodes g a)) (entry_as g h.n _ t a old P ha E) (proposed g t C P));
+      law = λ g t C P. go g t P (best AstSize t (class_nodes g a)) (proposed (Some new) is g t C P);
     }
       where
-        one : (g : Graph) (t : Table ℕ) → Prices g h.n (view h.n h.m ws).scratch t
-            → Takes g new (look a t) (best AstSize t (class_nodes g a))
-            → Took g h.n (view h.n h.m ws').scratch t (accept AstSize a (look a t) (best AstSize t (class_nodes g a)) t) (Ok 1)
-        one g t P T = record {
-          count = 1;
-          is = refl;
-          prices = rw (T.grown a t) (prices_more g h.n _ _ t a new T.best P (get_length scratch h.n h.m ws ok) ha T.named K.did);
-          grown = ap length (T.grown a t) ∙ omega arith;
-        }
+        go : (g : Graph) (t : Table ℕ) → Prices g h.n (view h.n h.m ws).scratch t → (p : Option (Best ℕ)) → Means g (Some new) p
+            → Took g h.n (view h.n h.m ws').scratch t (accept AstSize a (look a t) p t) (Ok 1)
+        go g t P None M = absurd M
+        go g t P (Some p) M =
+            let q : accept AstSize a (look a t) (Some p) t ≡ (a, p) ∷ t = rw e at (A.law g (look a t) p (entry_as g h.n _ t a old P ha E) M a t) in
+            record {
+              count = 1;
+              is = refl;
+              prices = rw q (prices_more g h.n _ _ t a new p P (get_length scratch h.n h.m ws ok) ha M K.did);
+              grown = ap length q ∙ omega arith;
+            }

@@ -3,22 +3,19 @@
 -- Assumes nothing.
 use Rattle.std.specs.Prelude.{Ok, Result, true, List, ◌≡◌, ℕ, length}
 use Rattle.broken.specs.declared.Broken.{Broken}
-use Rattle.broken.specs.Words.{broken}
+use Rattle.broken.specs.Words.{apart, broken, err≢ok}
 use Rattle.std.proofs.Common.{◌∙◌, ap, subst, sym}
 use Rattle.lists.specs.Tests.{zero_one}
 use Rattle.steps.specs.Graph.{Graph}
 use Rattle.steps.specs.Machine.{Rebuild, marked}
-use Rattle.cells.specs.Changes.{change_apart}
 use Rattle.holds.specs.Holds.{HoldsAt}
 use Rattle.holds.specs.Inside.{Inside, Near, inside_then}
-use Rattle.layout.specs.Head.{HeadOk}
 use Rattle.layout.specs.View.{View, view}
 use Rattle.layout.specs.declared.Head.{Head}
 use Rattle.rechilding.specs.All.{RechildsAll}
 use Rattle.rechilding.specs.Rechild.{Fit}
-use Rattle.taking.specs.Drain.{Startable}
+use Rattle.taking.specs.Drain.{DrainedTo, Startable}
 use Rattle.taking.specs.Enough.{DrainsAll}
-use Rattle.taking.specs.declared.Drained.{Drained}
 use Rattle.tidying.specs.Says.{Tidies, cleaned}
 use Rattle.uniting.specs.Near.{NearIds, inside_near, near_then, view_near}
 
@@ -35,11 +32,8 @@ module _ (h : Head) (ws ws1 : List ℕ) (c : Result Unit Broken) (C : RechildsAl
   finish_broken e = record {
     inside = C.inside;
     range = λ k f. zero_one cc;
-    sound = λ g u H F. absurd (change_apart c e (C.sound g u H F).0);
+    sound = λ g u H F. apart e (C.sound g u H F).0;
   }
-
-  pub finish_asks : HeadOk (length ws) h → HeadOk (length ws1) h
-  finish_asks ok = subst (λ (n : ℕ). HeadOk n h) (sym C.inside.size) ok
 
   pub finish_done : (r : Result Head Broken) (ws2 : List ℕ) → Tidies h ws1 r ws2 → FinishSays h ws r ws2
   finish_done r ws2 T = record {
@@ -57,7 +51,7 @@ module _ (h : Head) (ws ws1 : List ℕ) (c : Result Unit Broken) (C : RechildsAl
 -- ---- the whole
 
 -- the words hold the graph that a rebuild of g leaves, and the answer has its yes answers and entries
-pub record Rebuilt (u : ℕ) (g : Graph) (v : View) (r : Result Drained Broken) : Type 0 where
+pub record Rebuilt (u : ℕ) (g : Graph) (v : View) (r : Result DrainedTo Broken) : Type 0 where
   pub head : Head
   pub yeses : ℕ
   pub entries : ℕ
@@ -66,34 +60,28 @@ pub record Rebuilt (u : ℕ) (g : Graph) (v : View) (r : Result Drained Broken) 
   pub rebuild : Rebuild g yeses entries graph
   pub holds : HoldsAt head u v graph
 
-pub record RebuildSays (h : Head) (ws : List ℕ) (r : Result Drained Broken) (ws' : List ℕ) : Type 0 where
+pub record RebuildSays (h : Head) (ws : List ℕ) (r : Result DrainedTo Broken) (ws' : List ℕ) : Type 0 where
   pub inside : Inside h.n h.m ws ws'
-  pub range : (d : Drained) → r ≡ Ok d → NearIds (length ws) h d.head
+  pub range : (d : DrainedTo) → r ≡ Ok d → NearIds (length ws) h d.head
   pub sound : (g : Graph) (u : ℕ) (us : List (ℕ × ℕ)) → HoldsAt h u (view h.n h.m ws) g → Startable us g → Rebuilt u g (view h.n h.m ws') r
-
-never_drained : {A : Type 0} (d : Drained) → broken ≡ Ok d → A
-never_drained d e = zero_one cc
 
 fit : {us : List (ℕ × ℕ)} {g : Graph} → Startable us g → Fit g
 fit S = record { kids = S.good.shape.kids_lt; keyed = S.keyed }
 
-module _ (h : Head) (ws ws1 : List ℕ) (q : Result Drained Broken) (D : DrainsAll h ws q ws1) where
+module _ (h : Head) (ws ws1 : List ℕ) (q : Result DrainedTo Broken) (D : DrainsAll h ws q ws1) where
   pub rebuild_broken : q ≡ broken → RebuildSays h ws broken ws1
   rebuild_broken e = record {
     inside = D.inside;
-    range = λ d f. never_drained d f;
-    sound = λ g u us H S. let R = D.sound g u us H S in never_drained _ (sym e ∙ R.answer);
+    range = λ d f. err≢ok f;
+    sound = λ g u us H S. let R = D.sound g u us H S in err≢ok (sym e ∙ R.answer);
   }
 
-  module _ (d : Drained) (e : q ≡ Ok d) where
+  module _ (d : DrainedTo) (e : q ≡ Ok d) where
     abbrev k : Head
     k = d.head
 
     near : NearIds (length ws) h k
     near = D.range d e
-
-    pub rebuild_asks : HeadOk (length ws1) d.head
-    rebuild_asks = subst (λ (n : ℕ). HeadOk n k) (sym D.inside.size) near.near.ok
 
     module _ (ws2 : List ℕ) (r : Result Head Broken) (F : FinishSays d.head ws1 r ws2) where
       inside2 : Inside h.n h.m ws ws2
@@ -105,10 +93,10 @@ module _ (h : Head) (ws ws1 : List ℕ) (q : Result Drained Broken) (D : DrainsA
       ended g u us H S =
           let R = D.sound g u us H S in
           let a = sym e ∙ R.answer in
-          let same : ◌≡◌ {A = Drained} (record { head = R.head; yes = R.yeses; taken = R.entries }) d = cc in
-          let ek : R.head ≡ k = ap (λ (x : Drained). x.head) same in
-          let ey : R.yeses ≡ d.yes = ap (λ (x : Drained). x.yes) same in
-          let et : R.entries ≡ d.taken = ap (λ (x : Drained). x.taken) same in
+          let same : ◌≡◌ {A = DrainedTo} (record { head = R.head; yes = R.yeses; taken = R.entries }) d = cc in
+          let ek : R.head ≡ k = ap (λ (x : DrainedTo). x.head) same in
+          let ey : R.yeses ≡ d.yes = ap (λ (x : DrainedTo). x.yes) same in
+          let et : R.entries ≡ d.taken = ap (λ (x : DrainedTo). x.taken) same in
           let K = subst (λ (s : Head). HoldsAt s u (view h.n h.m ws1) R.graph) ek R.holds in
           let a = F.sound R.graph u (subst (λ (v : View). HoldsAt k u v R.graph) (sym (view_near near ws1)) K) (fit R.start) in (
             a.0,
@@ -120,11 +108,11 @@ module _ (h : Head) (ws ws1 : List ℕ) (q : Result Drained Broken) (D : DrainsA
       pub rebuild_torn : r ≡ broken → RebuildSays h ws broken ws2
       rebuild_torn f = record {
         inside = inside2;
-        range = λ s q. never_drained s q;
+        range = λ s q. err≢ok q;
         sound = λ g u us H S. let p = (ended g u us H S).0 in zero_one cc;
       }
 
-      abbrev pub ending : Head → Drained
+      abbrev pub ending : Head → DrainedTo
       ending s = record { head = s; yes = d.yes; taken = d.taken }
 
       pub rebuild_done : (s : Head) → r ≡ Ok s → RebuildSays h ws (Ok (ending s)) ws2
@@ -132,7 +120,7 @@ module _ (h : Head) (ws ws1 : List ℕ) (q : Result Drained Broken) (D : DrainsA
         inside = inside2;
         range = λ x q.
             let z : ending s ≡ x = cc in
-            subst (λ (y : Drained). NearIds (length ws) h y.head) z (near_then near (subst (λ (n : ℕ). NearIds n k s) D.inside.size (F.range s f)));
+            subst (λ (y : DrainedTo). NearIds (length ws) h y.head) z (near_then near (subst (λ (n : ℕ). NearIds n k s) D.inside.size (F.range s f)));
         sound = λ g u us H S.
             let p = ended g u us H S in
             let o = p.0 in

@@ -2,12 +2,11 @@
 -- Assumes nothing.
 use Rattle.std.specs.Prelude.{Ok, Result, List, ◌≢◌, ◌≡◌, refl, ◌+◌, ◌<◌, ◌≤◌, ℕ}
 use Rattle.broken.specs.declared.Broken.{Broken}
-use Rattle.broken.specs.Words.{broken}
+use Rattle.broken.specs.Words.{apart, broken}
 use Rattle.std.proofs.Common.{⊎_elim, ◌∙◌, ap, sym, arith}
 use Rattle.lists.specs.Tests.{eq_or}
 use Rattle.language.specs.Term.{term_at}
 use Rattle.steps.specs.Graph.{Graph, ids, key_of}
-use Rattle.cells.specs.Changes.{change_apart}
 use Rattle.holds.specs.Holds.{HoldsAt, UpToDate}
 use Rattle.holds.specs.Inside.{Inside, inside_same, inside_then}
 use Rattle.layout.specs.View.{View, view}
@@ -63,7 +62,7 @@ module _ (h : Head) (ws : List ℕ) where
     pub rechilded_broken : r ≡ broken → RechildsAll h ws broken ws2
     rechilded_broken e = record {
       inside = inside_then A.inside R.inside;
-      sound = λ g u H F. absurd (change_apart r e (one g u H F).0);
+      sound = λ g u H F. apart e (one g u H F).0;
     }
 
   pub rechilded_all : (i : ℕ) (ws' : List ℕ) → h.ids ≤ i → RechildedTo h ws ws' i → RechildsAll h ws (Ok tt) ws'

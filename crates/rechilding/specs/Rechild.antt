@@ -3,7 +3,7 @@
 -- Assumes nothing.
 use Rattle.std.specs.Prelude.{Ok, Result, Bool, false, true, List, [], ◌≢◌, ◌≡◌, refl, ◌<◌, ℕ}
 use Rattle.broken.specs.declared.Broken.{Broken}
-use Rattle.broken.specs.Words.{broken}
+use Rattle.broken.specs.Words.{apart, broken}
 use Rattle.std.proofs.Common.{⊎_elim, ◌∙◌, ap, subst, sym, arith, get_or-set_other, get_or-set_same}
 use Rattle.lists.specs.Members.{Mem}
 use Rattle.lists.specs.Tests.{Says, eq_or, zero_one}
@@ -12,7 +12,6 @@ use Rattle.language.specs.Term.{Term, term_at}
 use Rattle.language.specs.declared.Node.{Node}
 use Rattle.steps.specs.Graph.{Graph, ids, key_of, node}
 use Rattle.closure.specs.Slots.{Keyed}
-use Rattle.cells.specs.Changes.{change_apart}
 use Rattle.holds.specs.Holds.{HoldsAt}
 use Rattle.holds.specs.Inside.{Inside, inside_lent, inside_same, inside_then}
 use Rattle.holds.specs.Nodes.{Nodes}
@@ -86,7 +85,7 @@ module _ (h : Head) (i : ℕ) (k : Term) (ws ws1 : List ℕ) (d : Result Unit Br
   pub renew_stuck : d ≡ broken → RenewSays h i k ws broken ws1
   renew_stuck e = record {
     inside = L.inside;
-    sound = λ g u H F low key stale. absurd (change_apart d e (out g u H low));
+    sound = λ g u H F low key stale. apart e (out g u H low);
   }
 
   module _ (ws2 : List ℕ) (q : Result Unit Broken) (K : Lent rows h.n h.m (λ w w'. Promise.Keyed w w' h.n h.m i k q) ws1 ws2) where

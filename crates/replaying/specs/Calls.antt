@@ -1,21 +1,17 @@
 -- What it means that a line's call was made: for each verb, the call of that name was made on the line's numbers, there is an answer that
 -- its promise allows, and what is told is that answer. Words and list are those before and after.
 -- Assumes nothing.
-use Rattle.std.specs.Prelude.{Err, Ok, Option, Result, List, true, ◌≡◌, ℕ, ◌-◌, ◌≤◌, drop, take}
-use Rattle.std.specs.Option.{ok_or}
+use Rattle.std.specs.Prelude.{List, true, ◌≡◌, ℕ, ◌-◌, ◌≤◌, drop, take}
 use Rattle.lists.specs.Reads.{at}
 use Rattle.language.specs.declared.Node.{Node}
-use Rattle.spelling.specs.Alone.{SpellsOne}
 use Rattle.spelling.specs.Given.{GivenNode}
 use Rattle.egraph.specs.Adds.{AddSays, LookupSays, UncanonicalSays}
 use Rattle.egraph.specs.ClassLists.{ClassesSays, ForOpSays, TotalSays}
-use Rattle.egraph.specs.Listing.{NodesSays, NodeSays}
+use Rattle.egraph.specs.Listing.{NodesSays, NodeSpelled}
 use Rattle.egraph.specs.Reads.{CleanSays, CountSays, EmptySays, FindSays}
 use Rattle.egraph.specs.Rebuilds.{RebuildSays}
 use Rattle.egraph.specs.Setup.{SetupSays}
 use Rattle.egraph.specs.Unions.{UnionSays}
-use Rattle.egraph.specs.declared.Refusal.{Refusal}
-use Rattle.egraph.specs.declared.Refusal.TheVariants.{TooLong}
 use Rattle.extract.specs.Cost.{CostSays}
 use Rattle.extract.specs.Form.{FormSays}
 use Rattle.script.specs.declared.Call.{Call}
@@ -95,18 +91,8 @@ ForOpMade c ws list r list' = Answered (λ a. ForOpSays ws (number c 0) list a l
 abbrev pub NodesMade : List ℕ → List ℕ → Told → List ℕ → Type 0
 NodesMade ws list r list' = Answered (λ a. NodesSays ws list a list') list_told r
 
--- the words of a node at the start of the list, or that it is too short for them
-abbrev pub NodeSpelled : Result Node Refusal → List ℕ → Result ℕ Refusal → List ℕ → Type 0
-NodeSpelled (Ok x) list r list' = (s : Option ℕ) × SpellsOne list x s list' × (r ≡ ok_or s TooLong)
-NodeSpelled (Err q) list r list' = (r ≡ Err q) × (list' ≡ list)
-
-pub record NodeGiven (ws : List ℕ) (i : ℕ) (list : List ℕ) (r : Result ℕ Refusal) (list' : List ℕ) : Type 0 where
-  pub answer : Result Node Refusal
-  pub says : NodeSays ws i answer
-  pub spelled : NodeSpelled answer list r list'
-
 abbrev pub NodeMade : List ℕ → ℕ → List ℕ → Told → List ℕ → Type 0
-NodeMade ws i list r list' = Answered (λ a. NodeGiven ws i list a list') list_told r
+NodeMade ws i list r list' = Answered (λ a. NodeSpelled ws i list a list') list_told r
 
 -- ---- the call of a line
 

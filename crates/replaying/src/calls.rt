@@ -1,11 +1,10 @@
 // One call made, and what it answered as a reply; the words of a list or a form stand at the start of `list`.
 ghost use Rattle.std.specs.Prelude.{◌≤◌};
 ghost use Rattle.spelling.specs.Given.{GivenNode};
-ghost use Rattle.replaying.specs.Calls.{MadeBy, NodeGiven, Sound, kids_of, number};
+ghost use Rattle.replaying.specs.Calls.{MadeBy, Sound, kids_of, number};
 
 use super::Told;
 use super::replies::{Words, plain};
-use egraph::Refusal;
 use language::{Id, Node, Op};
 use script::{Call, Reply, Verb};
 
@@ -16,14 +15,6 @@ fn node_of(call: Call) -> Node
 {
     let n = call.numbers;
     spelling::node_of(n[0], n[1], &n[2..call.count])
-}
-
-// The node of an id as words in the list, how many these are, or why not.
-fn spell_node(ws: &[u32], list: &mut [u32], id: Id) -> Result<usize, Refusal>
-    ensures { NodeGiven ws.now id.0 list.old result list.new }
-{
-    let node = egraph::id_to_node(ws, id)?;
-    spelling::spell_one(list, node).ok_or(Refusal::TooLong)
 }
 
 // One call.
@@ -43,7 +34,7 @@ pub fn make(ws: &mut [u32], list: &mut [u32], call: Call) -> Told
         Verb::Union => Told::from(egraph::union(ws, Id(n[0]), Id(n[1]))),
         Verb::Rebuild => Told::from(egraph::rebuild(ws)),
         Verb::Nodes => Told::from(egraph::nodes(ws, list).map(Words)),
-        Verb::IdToNode => Told::from(spell_node(ws, list, Id(n[0])).map(Words)),
+        Verb::IdToNode => Told::from(egraph::spell_node(ws, Id(n[0]), list).map(Words)),
         Verb::IsEmpty => Told::from(egraph::is_empty(ws)),
         Verb::Clean => Told::from(egraph::clean(ws)),
         Verb::NumberOfClasses => Told::from(egraph::number_of_classes(ws)),

@@ -16,7 +16,8 @@ const FULL: usize = 65536;
 const PIECE: usize = 4096;
 
 // What is under way: how many bytes of a line have been read, how many bytes of answers are not written out yet, whether there may be more
-// to read, and whether a read or a write has failed.
+// to read, and whether a read or a write has failed. The line and the answers stand in arrays that are lent, and `used` and `at` say how
+// much of each is filled: so script's `keep` and `put_reply` take them, and a vector would be taken apart for each of these calls.
 #[derive(Clone, Copy)]
 struct Progress {
     used: usize,

@@ -9,6 +9,7 @@
 //     n + n + n + n          m        at each place a child as given
 //     n + n + n + n + m      m        at each place a child of the key
 //
+// `Nodes`, `store` and `set_key` have n and m beside the words: a caller lends the words (document 01), and their number does not tell both.
 // Places are handed out in order, so that the places of two ids never meet. `Rows` of specs/Rows.antt says which nodes the words hold.
 #![tactic(auto)]
 
@@ -35,72 +36,88 @@ fn take_kids(ws: &[u32], place: usize, count: usize, leaf: Node) -> Node
     node
 }
 
-// An id's operator and payload, as a node without children.
-fn read_leaf(ws: &[u32], n: usize, id: Id) -> Node
-    requires { (n + n ≤ length ws.now) × (id.0 < n) }
-    ensures { (result.count ≡ 0) × (node_of result ≡ leaf_at ws.now n id.0) }
-{
-    let i = id.0 as usize;
-    Node::leaf(Op(ws[i]), ws[n + i])
+// The stored nodes, to be read.
+#[derive(Clone, Copy)]
+pub struct Nodes<'a> {
+    pub ws: &'a [u32],
+    pub n: usize,
+    pub m: usize,
+    ghost whole: { length ws.now ≡ size n m },
 }
 
-// The node of an id, with the children that stand behind base.
-fn read_row(ws: &[u32], n: usize, m: usize, id: Id, base: usize) -> Result<Node, Broken>
-    requires { (length ws.now ≡ size n m) × (id.0 < n) × (base + m ≤ size n m) }
-    ensures { Reads ws.now n m id.0 base result }
-{
-    let i = id.0 as usize;
-    let b = n + (n + i);
-    let f = n + b;
-    let count = ws[b] as usize;
-    let first = ws[f] as usize;
-    if count > language::PLACES {
-        return Err(Broken);
+impl Nodes<'_> {
+    // An id's operator and payload, as a node without children.
+    fn leaf(&self, id: Id) -> Node
+        requires { id.0 < self.now.n }
+        ensures { (result.count ≡ 0) × (node_of result ≡ leaf_at self.now.ws.now self.now.n id.0) }
+    {
+        let i = id.0 as usize;
+        Node::leaf(Op(self.ws[i]), self.ws[self.n + i])
     }
-    if first + count > m {
-        return Err(Broken);
+
+    // The node of an id, with the children that stand behind base.
+    fn row(&self, id: Id, base: usize) -> Result<Node, Broken>
+        requires { (id.0 < self.now.n) × (base + self.now.m ≤ size self.now.n self.now.m) }
+        ensures { Reads self.now.ws.now self.now.n self.now.m id.0 base result }
+    {
+        let n = self.n;
+        let i = id.0 as usize;
+        let b = n + (n + i);
+        let f = n + b;
+        let count = self.ws[b] as usize;
+        let first = self.ws[f] as usize;
+        if count > language::PLACES {
+            return Err(Broken);
+        }
+        if first + count > self.m {
+            return Err(Broken);
+        }
+        Ok(take_kids(self.ws, base + first, count, self.leaf(id)))
     }
-    Ok(take_kids(ws, base + first, count, read_leaf(ws, n, id)))
-}
 
-// The node of an id as it was given.
-pub fn given(ws: &[u32], n: usize, m: usize, id: Id) -> Result<Node, Broken>
-    requires { (length ws.now ≡ size n m) × (id.0 < n) }
-    ensures { Given ws.now n m id.0 result }
-{
-    read_row(ws, n, m, id, n + n + n + n)
-}
+    // The node of an id as it was given.
+    pub fn given(&self, id: Id) -> Result<Node, Broken>
+        requires { id.0 < self.now.n }
+        ensures { Given self.now.ws.now self.now.n self.now.m id.0 result }
+    {
+        let n = self.n;
+        self.row(id, n + n + n + n)
+    }
 
-// The node of an id with the children that its key row has.
-pub fn key(ws: &[u32], n: usize, m: usize, id: Id) -> Result<Node, Broken>
-    requires { (length ws.now ≡ size n m) × (id.0 < n) }
-    ensures { Key ws.now n m id.0 result }
-{
-    read_row(ws, n, m, id, n + n + n + n + m)
-}
+    // The node of an id with the children that its key row has.
+    pub fn key(&self, id: Id) -> Result<Node, Broken>
+        requires { id.0 < self.now.n }
+        ensures { Key self.now.ws.now self.now.n self.now.m id.0 result }
+    {
+        let n = self.n;
+        self.row(id, n + n + n + n + self.m)
+    }
 
-// The node of an id with the children that stand behind base, or without children where its row has none that a call could have written.
-fn row_or_leaf(ws: &[u32], n: usize, m: usize, id: Id, base: usize) -> Node
-    requires { (length ws.now ≡ size n m) × (id.0 < n) × (base + m ≤ size n m) }
-    ensures { IsNode result (read ws.now n m id.0 base) }
-{
-    read_row(ws, n, m, id, base).unwrap_or(read_leaf(ws, n, id))
-}
+    // The node of an id with the children that stand behind base, or without children where its row has none that a call could have written.
+    fn row_or_leaf(&self, id: Id, base: usize) -> Node
+        requires { (id.0 < self.now.n) × (base + self.now.m ≤ size self.now.n self.now.m) }
+        ensures { IsNode result (read self.now.ws.now self.now.n self.now.m id.0 base) }
+    {
+        self.row(id, base).unwrap_or(self.leaf(id))
+    }
 
-// The node of an id as it was given, on any words: a row that no call could have written counts as one without children.
-pub fn given_or_leaf(ws: &[u32], n: usize, m: usize, id: Id) -> Node
-    requires { (length ws.now ≡ size n m) × (id.0 < n) }
-    ensures { IsNode result (given_read ws.now n m id.0) }
-{
-    row_or_leaf(ws, n, m, id, n + n + n + n)
-}
+    // The node of an id as it was given, on any words: a row that no call could have written counts as one without children.
+    pub fn given_or_leaf(&self, id: Id) -> Node
+        requires { id.0 < self.now.n }
+        ensures { IsNode result (given_read self.now.ws.now self.now.n self.now.m id.0) }
+    {
+        let n = self.n;
+        self.row_or_leaf(id, n + n + n + n)
+    }
 
-// The node of an id with the children that its key row has, on any words: a row that no call could have written counts as one without children.
-pub fn key_or_leaf(ws: &[u32], n: usize, m: usize, id: Id) -> Node
-    requires { (length ws.now ≡ size n m) × (id.0 < n) }
-    ensures { IsNode result (key_read ws.now n m id.0) }
-{
-    row_or_leaf(ws, n, m, id, n + n + n + n + m)
+    // The node of an id with the children that its key row has, on any words: a row that no call could have written counts as one without children.
+    pub fn key_or_leaf(&self, id: Id) -> Node
+        requires { id.0 < self.now.n }
+        ensures { IsNode result (key_read self.now.ws.now self.now.n self.now.m id.0) }
+    {
+        let n = self.n;
+        self.row_or_leaf(id, n + n + n + n + self.m)
+    }
 }
 
 // A new id: the node as given, and its key.

@@ -1,12 +1,15 @@
 -- What is written of a number is read back as that number, and nothing else is read as it: Decimal and the library's `decimal` agree.
 -- Assumes nothing.
-use Rattle.std.specs.Prelude.{◌≡◌, refl, List, [], ◌∷◌, Option, Some, None, ℕ, zero, suc, ◌+◌, ◌*◌, ◌-◌, ◌^◌, ◌≤◌, ◌<◌, length, get_or, decimal}
+use denote.Ref.{Bor}
+use Rattle.std.specs.Prelude.{Err, MatchResult, Ok, Result, ◌≡◌, refl, List, [], ◌∷◌, Option, Some, None, ℕ, zero, suc, ◌+◌, ◌*◌, ◌-◌, ◌^◌, ◌≤◌, ◌<◌, length, get_or, decimal}
 use Rattle.std.specs.Char.{digit_value}
-use Rattle.std.specs.Str.Parse.{AllDigits, digits_value_after}
+use Rattle.std.specs.Result.{OkIff, result_ok}
+use Rattle.std.specs.Str.{IsAscii, IsUtf8}
+use Rattle.std.specs.Str.Parse.{AllDigits, IsNumeral, ParsesUnsigned, digits_value, digits_value_after}
 use Rattle.std.proofs.Common.{inl, inr, sym, ap, ◌∙◌, arith, lt-ltb, le-ltb, eq-eqb, ne_eqb}
 use Rattle.std.proofs.Math.Decide.{dec_lt, ℕ_discrete}
 use Rattle.std.proofs.lemmas.Fmt.{decimal_digit, decimal_is_IsNumeral, decimal-digits_value, first_decimal}
-use Rattle.std.proofs.lemmas.Str.{digit_value_digit}
+use Rattle.std.proofs.lemmas.Str.{IsUtf8-from_ascii, digit_value_digit}
 use Rattle.std.proofs.lemmas.Str.Parse.{digit_from_value, numerals_by_value, tells_digits}
 use Rattle.script.specs.Decimal.{digits_of, small, number_of}
 use Rattle.script.specs.FieldsLaws.{digit_is, digit_not, number_else}
@@ -71,3 +74,55 @@ read_means (b ∷ c ∷ s) n e = go (ℕ_discrete b 48)
     go : Dec (b ≡ 48) → (n < 2 ^ 32) × (b ∷ c ∷ s ≡ decimal n)
     go (yes h) = let z : None ≡ Some n = rw (eq-eqb b 48 h) at e in cc z
     go (no h) = text_of (b ∷ c ∷ s) n (omega arith) (λ z. absurd (h z)) (rw (ne_eqb b 48 h) at e)
+
+-- ---- what the library's `parse` reads
+
+-- digits are text
+ascii : (s : List ℕ) → AllDigits 10 s → IsAscii s
+ascii [] d i = omega arith
+ascii (b ∷ s) d zero = omega (arith, digit_from_value b d.0)
+ascii (b ∷ s) d (suc i) = ascii s d.1 i
+
+no_text : (s : List ℕ) → (IsUtf8 s → ⊥) → None ≡ small (digits_of 0 s)
+no_text s u = go (digits_of 0 s) refl
+  where
+    go : (x : Option ℕ) → digits_of 0 s ≡ x → None ≡ small (digits_of 0 s)
+    go None p = rw p refl
+    go (Some n) p = absurd (u (IsUtf8-from_ascii s (ascii s (means s 0 n p).0)))
+
+-- a text without a plus sign in front
+parsed : {E : Type 0} (s : List ℕ) (r : Result ℕ E) → 0 < length s
+    → OkIff r (IsNumeral 10 s × (digits_value 10 s < 2 ^ 32)) (digits_value 10 s) → result_ok r ≡ small (digits_of 0 s)
+parsed s (Ok x) l h = rw (h.1, reads s 0 h.0.0.1, lt-ltb (digits_value 10 s) (2 ^ 32) h.0.1) refl
+parsed s (Err e) l h = go (digits_of 0 s) refl
+  where
+    go : (x : Option ℕ) → digits_of 0 s ≡ x → None ≡ small (digits_of 0 s)
+    go None p = rw p refl
+    go (Some n) p = let m = means s 0 n p in let v : 2 ^ 32 ≤ n = not_lt m.0 m.1 in rw (p, le-ltb n (2 ^ 32) v) refl
+      where
+        not_lt : AllDigits 10 s → n ≡ digits_value_after 10 0 s → 2 ^ 32 ≤ n
+        not_lt d q = by_two (dec_lt n (2 ^ 32))
+          where
+            by_two : Dec (n < 2 ^ 32) → 2 ^ 32 ≤ n
+            by_two (yes k) = absurd (h ((l, d), rw q at k))
+            by_two (no k) = omega (arith, k)
+
+-- a field that neither a plus sign nor a 0 stands in front of, read as a text
+module _ {E : Type 0} (N : E → Type 0) (s : List ℕ) (l : 0 < length s) (z : 1 < length s → get_or s 0 0 ≡ 48 → ⊥) (r : Result (Bor (List ℕ)) E)
+    (m : MatchResult r (λ x. (x.now ≡ s) × IsUtf8 s) (λ e. (IsUtf8 s → ⊥) × N e)) (o : Option (Bor (List ℕ))) (q : o ≡ result_ok r) where
+  pub number_no_text : o ≡ None → None ≡ number_of s
+  number_no_text e = go r m (sym q ∙ e) ∙ number_else s l z
+    where
+      go : (r : Result (Bor (List ℕ)) E) → MatchResult r (λ x. (x.now ≡ s) × IsUtf8 s) (λ e. (IsUtf8 s → ⊥) × N e) → result_ok r ≡ None
+          → None ≡ small (digits_of 0 s)
+      go (Ok x) m e = cc
+      go (Err x) m e = no_text s m.0
+
+  pub number_parsed : {F : Type 0} (t : Bor (List ℕ)) (n : Result ℕ F) → o ≡ Some t → (get_or s 0 0 ≡ 43 → ⊥)
+      → ParsesUnsigned 32 10 t.now n → result_ok n ≡ number_of s
+  number_parsed t n e p h = parsed s n l (rw (go r m (sym q ∙ e), ne_eqb (get_or s 0 0) 43 p) at h) ∙ number_else s l z
+    where
+      go : (r : Result (Bor (List ℕ)) E) → MatchResult r (λ x. (x.now ≡ s) × IsUtf8 s) (λ e. (IsUtf8 s → ⊥) × N e) → result_ok r ≡ Some t
+          → t.now ≡ s
+      go (Ok x) m e = let k : x ≡ t = cc in rw (← k) m.0
+      go (Err x) m e = cc

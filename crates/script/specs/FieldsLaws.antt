@@ -1,6 +1,6 @@
 -- The laws behind the reading of fields: digits one after the other, and the numbers gathered so far.
 -- Assumes nothing.
-use Rattle.std.specs.Prelude.{◌≡◌, refl, List, [], ◌∷◌, ◌++◌, Bool, true, false, cond, ◌⊎◌, Option, Some, None, ℕ, suc, ◌+◌, ◌*◌, ◌-◌, ◌^◌, ◌≤◌, ◌<◌, ltb, length, get_or, take, drop, set}
+use Rattle.std.specs.Prelude.{◌≡◌, refl, List, [], ◌∷◌, ◌++◌, ◌⊎◌, Option, Some, None, ℕ, suc, ◌+◌, ◌-◌, ◌≤◌, ◌<◌, length, get_or, take, drop, set}
 use Rattle.std.proofs.Common.{inl, inr, sym, ap, ◌∙◌, append_assoc, append-nil, add-one, arith, eq-eqb, ne_eqb, lt-ltb, le-ltb}
 use Rattle.std.proofs.Math.Seq.{take-suc-set}
 use Rattle.std.proofs.lemmas.List.{at_drop_more, at_drop_all}
@@ -9,34 +9,12 @@ use Rattle.script.specs.Fields.{with_first, numbers_of}
 
 -- ---- digits
 
-pub digits_over : (t : List ℕ) (acc : ℕ) → 2 ^ 32 ≤ acc → small (digits_of acc t) ≡ None
-unfolding digits_of
-digits_over [] acc h = rw (le-ltb acc (2 ^ 32) h) refl
-digits_over (b ∷ s) acc h = go (ltb (digit_of b) 10) (digits_over s (acc * 10 + digit_of b) (omega arith))
-  where
-    go : (x : Bool) → small (digits_of (acc * 10 + digit_of b) s) ≡ None → small (cond x (digits_of (acc * 10 + digit_of b) s) None) ≡ None
-    go true e = e
-    go false e = refl
-
 pub digit_is : (b : ℕ) → 48 ≤ b → b ≤ 57 → digit_of b ≡ b - 48
 digit_is b l m = rw (le-ltb b 48 l, le-ltb 57 b m) refl
 
 pub digit_not : (b : ℕ) → (b < 48) ⊎ (57 < b) → digit_of b ≡ 10
 digit_not b (inl l) = rw (lt-ltb b 48 l) refl
 digit_not b (inr l) = rw (le-ltb b 48 (omega arith), lt-ltb 57 b l) refl
-
-pub digits_more : (s : List ℕ) (i acc d : ℕ) → i < length s → (48 ≤ get_or s i 0) × (get_or s i 0 ≤ 57) → d ≡ get_or s i 0 - 48 → digits_of acc (drop i s) ≡ digits_of (acc * 10 + d) (drop (i + 1) s)
-unfolding digits_of
-digits_more s i acc d l h e =
-    at_drop_more (digits_of acc) s i 0 l ∙ rw (digit_is (get_or s i 0) h.0 h.1, ← e, lt-ltb d 10 (omega arith)) refl
-
-pub digits_stop : (s : List ℕ) (i acc : ℕ) → i < length s → (get_or s i 0 < 48) ⊎ (57 < get_or s i 0) → digits_of acc (drop i s) ≡ None
-unfolding digits_of
-digits_stop s i acc l h = at_drop_more (digits_of acc) s i 0 l ∙ rw (digit_not (get_or s i 0) h) refl
-
-pub digits_end : (s : List ℕ) (i acc : ℕ) → length s ≤ i → acc < 2 ^ 32 → small (digits_of acc (drop i s)) ≡ Some acc
-unfolding digits_of
-digits_end s i acc h l = ap small (at_drop_all (digits_of acc) s i h) ∙ rw (lt-ltb acc (2 ^ 32) l) refl
 
 -- ---- a field
 
@@ -50,6 +28,12 @@ unfolding number_of
 number_zero [] h e = absurd (omega arith)
 number_zero (b ∷ []) h e = absurd (omega arith)
 number_zero (b ∷ c ∷ s) h e = rw (eq-eqb b 48 e) refl
+
+pub number_plus : (s : List ℕ) → 0 < length s → get_or s 0 0 ≡ 43 → None ≡ number_of s
+unfolding number_of digits_of
+number_plus [] h e = absurd (omega arith)
+number_plus (b ∷ []) h e = rw e refl
+number_plus (b ∷ c ∷ s) h e = rw e refl
 
 pub number_else : (s : List ℕ) → 0 < length s → (1 < length s → get_or s 0 0 ≡ 48 → ⊥) → small (digits_of 0 s) ≡ number_of s
 unfolding number_of

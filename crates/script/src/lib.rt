@@ -36,7 +36,8 @@ pub enum Verb {
     Bad,
 }
 
-// A call: its verb, and the first `count` of `numbers`; the places past them mean nothing. A slice of them would need a heap or a loan.
+// A call: its verb, and the first `count` of `numbers`; the places past them mean nothing. No vector of a fixed
+// capacity, which has no heap either: it is no `Copy` as a `Call` is, and `Says` (what `parse` promises) and `MadeBy` of replaying speak of both fields.
 #[derive(Clone, Copy)]
 pub struct Call {
     pub verb: Verb,

@@ -2,6 +2,7 @@ pub mod Arranged
 pub mod Keyed
 pub mod Stretch
 pub mod Ids
+pub mod Did
 pub mod Turn
 pub mod Merge
 pub mod Run

@@ -63,7 +63,7 @@ module _ (ws us : List ℕ) (n m : ℕ) (l r : Stretch) (to : ℕ) (s t : Stretc
       (below_part ws n r.start r.len B.right_ids t.start t.len (omega (arith, G.right_end, G.right_less)) (omega (arith, G.right_end))) us
       (λ k h₁ h₂. G.only.before k (omega (arith, G.right_end, B.below)))
 
-  pub going_turn : (u : Turn) → Shorter s t u → Turned us n m s t u → Going ws (set us (to + d) (at us u.from)) n m l r to u.left u.right (d + 1)
+  pub going_turn : (u : Turn) → Shorter s t u → Turned us n m s t u → Going ws (set us (to + d) (at us u.from)) n m l r to u.rest.left u.rest.right (d + 1)
   going_turn u S T = record {
     left_end = S.left_end ∙ G.left_end;
     right_end = S.right_end ∙ G.right_end;
@@ -80,13 +80,13 @@ module _ (ws us : List ℕ) (n m : ℕ) (l r : Stretch) (to : ℕ) (s t : Stretc
       fits : to + d < length us
       fits = omega (arith, S.fewer, G.few, B.room, G.only.kept_length)
 
-      l_same : words (set us (to + d) v) u.left ≡ words us u.left
+      l_same : words (set us (to + d) v) u.rest.left ≡ words us u.rest.left
       l_same = stretch_same _ _ _ _ (λ k h₁ h₂. get_or-set_other us (to + d) k v 0 (omega (arith, S.left_end, G.left_end, B.ordered, B.below)))
 
-      r_same : words (set us (to + d) v) u.right ≡ words us u.right
+      r_same : words (set us (to + d) v) u.rest.right ≡ words us u.rest.right
       r_same = stretch_same _ _ _ _ (λ k h₁ h₂. get_or-set_other us (to + d) k v 0 (omega (arith, S.right_end, G.right_end, B.below)))
 
-      then : (zs : List ℕ) → Merged (by ws n m) (words us u.left) (words us u.right) zs → Merged (by ws n m) (words us s) (words us t) (v ∷ zs)
+      then : (zs : List ℕ) → Merged (by ws n m) (words us u.rest.left) (words us u.rest.right) zs → Merged (by ws n m) (words us s) (words us t) (v ∷ zs)
       then zs = rw (by_same us ws n m to B.front G.only.kept_length G.only.before) at (T.step zs)
 
 pub going_end : (ws us : List ℕ) (n m : ℕ) (l r : Stretch) (to : ℕ) (s t : Stretch) (d : ℕ) → s.len + t.len ≡ 0 → Going ws us n m l r to s t d

@@ -28,23 +28,23 @@ pub record Heads (ws : List ℕ) (n m : ℕ) (l r : Stretch) (o : Ordering) : Ty
   pub equal : o ≡ Equal → (0 < l.len) × (0 < r.len) × (by ws n m (at ws l.start) (at ws r.start) ≡ Equal)
   pub greater : o ≡ Greater → (0 < r.len) × (0 < l.len → by ws n m (at ws l.start) (at ws r.start) ≡ Greater)
 
--- t.left and t.right end where l and r do, and together they have fewer words
+-- t.rest.left and t.rest.right end where l and r do, and together they have fewer words
 pub record Shorter (l r : Stretch) (t : Turn) : Type 0 where
-  pub left_end : t.left.start + t.left.len ≡ l.start + l.len
-  pub right_end : t.right.start + t.right.len ≡ r.start + r.len
-  pub left_less : t.left.len ≤ l.len
-  pub right_less : t.right.len ≤ r.len
-  pub fewer : t.left.len + t.right.len < l.len + r.len
+  pub left_end : t.rest.left.start + t.rest.left.len ≡ l.start + l.len
+  pub right_end : t.rest.right.start + t.rest.right.len ≡ r.start + r.len
+  pub left_less : t.rest.left.len ≤ l.len
+  pub right_less : t.rest.right.len ≤ r.len
+  pub fewer : t.rest.left.len + t.rest.right.len < l.len + r.len
   pub inside : t.from < r.start + r.len
 
--- the word that comes next stands at t.from, and t.left and t.right are left
+-- the word that comes next stands at t.from, and t.rest.left and t.rest.right are left
 pub record Turned (ws : List ℕ) (n m : ℕ) (l r : Stretch) (t : Turn) : Type 0 where
-  pub step : (zs : List ℕ) → Merged (by ws n m) (words ws t.left) (words ws t.right) zs
+  pub step : (zs : List ℕ) → Merged (by ws n m) (words ws t.rest.left) (words ws t.rest.right) zs
       → Merged (by ws n m) (words ws l) (words ws r) (at ws t.from ∷ zs)
 
 module _ (ws : List ℕ) (n m : ℕ) (l r : Stretch) where
   pub turn_less : 0 < l.len → (0 < r.len → by ws n m (at ws l.start) (at ws r.start) ≡ Less)
-      → Turned ws n m l r (record { from = l.start; left = rest l; right = r })
+      → Turned ws n m l r (record { from = l.start; rest = record { left = rest l; right = r } })
   turn_less p e = record {
     step = λ zs d. rw (stretch_first ws l.start l.len p) (⊎_elim
         (λ (q : 0 < r.len). rw (stretch_first ws r.start r.len q) (under (e q) (rw (stretch_first ws r.start r.len q) at d)))
@@ -53,11 +53,11 @@ module _ (ws : List ℕ) (n m : ℕ) (l r : Stretch) where
   }
 
   pub turn_equal : 0 < l.len → 0 < r.len → by ws n m (at ws l.start) (at ws r.start) ≡ Equal
-      → Turned ws n m l r (record { from = l.start; left = rest l; right = rest r })
+      → Turned ws n m l r (record { from = l.start; rest = record { left = rest l; right = rest r } })
   turn_equal p q e = record { step = λ zs d. rw (stretch_first ws l.start l.len p, stretch_first ws r.start r.len q) (level e d) }
 
   pub turn_greater : 0 < r.len → (0 < l.len → by ws n m (at ws l.start) (at ws r.start) ≡ Greater)
-      → Turned ws n m l r (record { from = r.start; left = l; right = rest r })
+      → Turned ws n m l r (record { from = r.start; rest = record { left = l; right = rest r } })
   turn_greater q e = record {
     step = λ zs d. rw (stretch_first ws r.start r.len q) (⊎_elim
         (λ (p : 0 < l.len). rw (stretch_first ws l.start l.len p) (over (e p) (rw (stretch_first ws l.start l.len p) at d)))

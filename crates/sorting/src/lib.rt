@@ -6,6 +6,7 @@
 //     4n + 2m                    n        the ids to sort: the first k words, and afterwards the first d
 //     4n + 2m + n                n        words to work in
 //
+// `sort` takes n and m beside the words, which a caller lends (document 01): how many there are does not tell both. It makes one `Work` of the three.
 // A merge sort from the top down. A merge drops what is equal, so that a run is strictly ascending and needs no last pass.
 #![tactic(auto)]
 
@@ -15,6 +16,7 @@ ghost use Rattle.lists.specs.Tests.{Says};
 ghost use Rattle.rows.specs.Rows.{size};
 ghost use Rattle.sorting.specs.Stretch.{rest};
 ghost use Rattle.sorting.specs.Ids.{by, Below};
+ghost use Rattle.sorting.specs.Did.{Did};
 ghost use Rattle.sorting.specs.Turn.{Waiting, Heads, Shorter, Turned};
 ghost use Rattle.sorting.specs.Merge.{Beside, Merges};
 ghost use Rattle.sorting.specs.Run.{Area, Ran};
@@ -23,9 +25,10 @@ ghost use Rattle.sorting.specs.Promise.{Sorts};
 
 use broken::Broken;
 use language::Id;
+use rows::Nodes;
 use std::cmp::Ordering;
 
-// Ids that stand one after another, `len` of them from `start` on.
+// Ids that stand one after another, `len` of them from `start` on. No slice, since the words are written while two stretches of them are in hand.
 #[derive(Clone, Copy)]
 struct Stretch {
     start: usize,
@@ -45,155 +48,169 @@ impl Stretch {
     }
 }
 
-// One turn of a merge: where the next id is, and what is left of the two stretches.
+// Two stretches that become one: of equal ids it is the left one's that is kept.
 #[derive(Clone, Copy)]
-struct Turn {
-    from: usize,
+struct Pair {
     left: Stretch,
     right: Stretch,
 }
 
-// The order of the ids at i and j: that of their keys.
-fn compare(ws: &[u32], n: usize, m: usize, i: usize, j: usize) -> Ordering
-    requires m_in_bounds { (size n m ≤ length ws.now) × (i < length ws.now) × (j < length ws.now) }
-    requires i_bound { (at ws.now i < n) × (at ws.now j < n) }
-    ensures { result ≡ by ws.now n m (at ws.now i) (at ws.now j) }
-{
-    let front = n + n + n + n + m + m;
-    let a = rows::key_or_leaf(&ws[..front], n, m, Id(ws[i]));
-    let b = rows::key_or_leaf(&ws[..front], n, m, Id(ws[j]));
-    a.order(b)
+// One turn of a merge: where the next id is, and what is left of the pair.
+#[derive(Clone, Copy)]
+struct Turn {
+    from: usize,
+    rest: Pair,
 }
 
-// The order of the first ids of two stretches, of which one has an id: one without ids comes last.
-fn heads(ws: &[u32], n: usize, m: usize, left: Stretch, right: Stretch) -> Ordering
-    requires { Waiting ws.now n m left right }
-    ensures { Heads ws.now n m left right result }
-{
-    if left.len == 0 {
-        return Ordering::Greater;
-    }
-    if right.len == 0 {
-        return Ordering::Less;
-    }
-    compare(ws, n, m, left.start, right.start)
+// The words, to be written, and n and m, which say what stands where in them.
+#[derive(Drop)]
+struct Work<'a> {
+    ws: &'a mut [u32],
+    n: usize,
+    m: usize,
 }
 
-// Which id comes next, of those of two stretches. Of two ids with equal keys the right one is passed over.
-fn next(ws: &[u32], n: usize, m: usize, left: Stretch, right: Stretch) -> Turn
-    requires { Waiting ws.now n m left right }
-    ensures shorter { Shorter left right result }
-    ensures step { Turned ws.now n m left right result }
-{
-    match heads(ws, n, m, left, right) {
-        Ordering::Less => Turn {
-            from: left.start,
-            left: left.rest(),
-            right,
-        },
-        Ordering::Equal => Turn {
-            from: left.start,
-            left: left.rest(),
-            right: right.rest(),
-        },
-        Ordering::Greater => Turn {
-            from: right.start,
-            left,
-            right: right.rest(),
-        },
+impl Work<'_> {
+    // The order of the ids at i and j: that of their keys. The keys stand in the words, so no derive can compare them.
+    fn compare(&self, i: usize, j: usize) -> Ordering
+        requires m_in_bounds { (size self.now.n self.now.m ≤ length self.now.ws.now) × (i < length self.now.ws.now) × (j < length self.now.ws.now) }
+        requires i_bound { (at self.now.ws.now i < self.now.n) × (at self.now.ws.now j < self.now.n) }
+        ensures { result ≡ by self.now.ws.now self.now.n self.now.m (at self.now.ws.now i) (at self.now.ws.now j) }
+    {
+        let n = self.n;
+        let m = self.m;
+        let front = n + n + n + n + m + m;
+        let nodes = Nodes {
+            ws: &self.ws[..front],
+            n,
+            m,
+        };
+        let a = nodes.key_or_leaf(Id(self.ws[i]));
+        let b = nodes.key_or_leaf(Id(self.ws[j]));
+        a.order(b)
     }
-}
 
-// Merges two stretches into the words from `to` on, and answers how many words that are.
-fn merge(ws: &mut [u32], n: usize, m: usize, left: Stretch, right: Stretch, to: usize) -> usize
-    requires { Beside ws.old n m left right to }
-    ensures { Merges ws.old ws.new n m left right to result }
-{
-    let mut l = left;
-    let mut r = right;
-    let mut d: usize = 0;
-    // Not a `for`: how many turns there are depends on how many ids have equal keys.
-    while 0 < l.len + r.len {
-        let turn = next(ws, n, m, l, r);
-        ws[to + d] = ws[turn.from];
-        d += 1;
-        l = turn.left;
-        r = turn.right;
+    // The order of the first ids of two stretches, of which one has an id: one without ids comes last.
+    fn heads(&self, pair: Pair) -> Ordering
+        requires { Waiting self.now.ws.now self.now.n self.now.m pair.left pair.right }
+        ensures { Heads self.now.ws.now self.now.n self.now.m pair.left pair.right result }
+    {
+        if pair.left.len == 0 {
+            return Ordering::Greater;
+        }
+        if pair.right.len == 0 {
+            return Ordering::Less;
+        }
+        self.compare(pair.left.start, pair.right.start)
     }
-    d
-}
 
-// Whether the second run starts where the first ends and comes after it, so that nothing is to do.
-fn meets(ws: &[u32], n: usize, m: usize, left: Stretch, right: Stretch) -> bool
-    requires { Near ws.now n m left right }
-    ensures { result ≡ true → Meet ws.now n m left right }
-{
-    if left.len == 0 || right.len == 0 || left.start + left.len < right.start {
-        return false;
-    }
-    compare(ws, n, m, right.start - 1, right.start) == Ordering::Less
-}
-
-// Makes one run of two, where the first starts, with the words n further on to work in.
-fn join(ws: &mut [u32], n: usize, m: usize, left: Stretch, right: Stretch) -> usize
-    requires { Near ws.old n m left right }
-    ensures { Joins ws.old ws.new n m left right result }
-{
-    if meets(ws, n, m, left, right) {
-        return left.len + right.len;
-    }
-    let to = left.start + n;
-    let d = merge(ws, n, m, left, right, to);
-    ws.copy_within(to..to + d, left.start);
-    d
-}
-
-// Sorts two ids at lo.
-fn sort_two(ws: &mut [u32], n: usize, m: usize, lo: usize) -> usize
-    requires { Area ws.old n m lo 2 }
-    ensures { Ran ws.old ws.new n m lo 2 result }
-{
-    let hi = lo + 1;
-    match compare(ws, n, m, lo, hi) {
-        Ordering::Less => 2,
-        Ordering::Equal => 1,
-        Ordering::Greater => {
-            ws.swap(lo, hi);
-            2
+    // Which id comes next, of those of two stretches. Of two ids with equal keys the right one is passed over.
+    fn next(&self, pair: Pair) -> Turn
+        requires { Waiting self.now.ws.now self.now.n self.now.m pair.left pair.right }
+        ensures shorter { Shorter pair.left pair.right result }
+        ensures step { Turned self.now.ws.now self.now.n self.now.m pair.left pair.right result }
+    {
+        let Pair { left, right } = pair;
+        let (from, left, right) = match self.heads(pair) {
+            Ordering::Less => (left.start, left.rest(), right),
+            Ordering::Equal => (left.start, left.rest(), right.rest()),
+            Ordering::Greater => (right.start, left, right.rest()),
+        };
+        Turn {
+            from,
+            rest: Pair { left, right },
         }
     }
-}
 
-// Sorts the k ids at lo, with the k words n further on to work in.
-fn sort_run(ws: &mut [u32], n: usize, m: usize, lo: usize, k: usize) -> usize
-    requires { Area ws.old n m lo k }
-    ensures { Ran ws.old ws.new n m lo k result }
-{
-    if k < 2 {
-        return k;
+    // Merges two stretches into the words from `to` on, and answers how many words that are.
+    fn merge(&mut self, pair: Pair, to: usize) -> usize
+        requires { Beside self.old.ws.now self.old.n self.old.m pair.left pair.right to }
+        ensures { Did (λ ws ws' n m. Merges ws ws' n m pair.left pair.right to result) self.old self.new }
+    {
+        let mut rest = pair;
+        let mut d: usize = 0;
+        // Not a `for`: how many turns there are depends on how many ids have equal keys.
+        while 0 < rest.left.len + rest.right.len {
+            let turn = self.next(rest);
+            self.ws[to + d] = self.ws[turn.from];
+            d += 1;
+            rest = turn.rest;
+        }
+        d
     }
-    if k == 2 {
-        return sort_two(ws, n, m, lo);
-    }
-    let h = k / 2;
-    let mid = lo + h;
-    let a = sort_run(ws, n, m, lo, h);
-    let b = sort_run(ws, n, m, mid, k - h);
-    join(
-        ws,
-        n,
-        m,
-        Stretch { start: lo, len: a },
-        Stretch { start: mid, len: b },
-    )
-}
 
-// Whether the k words at base are ids.
-fn are_ids(ws: &[u32], n: usize, base: usize, k: usize) -> bool
-    requires { base + k ≤ length ws.now }
-    ensures { Says result (Below ws.now n base k) }
-{
-    ws[base..base + k].iter().all(|w| (*w as usize) < n)
+    // Whether the second run starts where the first ends and comes after it, so that nothing is to do.
+    fn meets(&self, pair: Pair) -> bool
+        requires { Near self.now.ws.now self.now.n self.now.m pair.left pair.right }
+        ensures { result ≡ true → Meet self.now.ws.now self.now.n self.now.m pair.left pair.right }
+    {
+        let Pair { left, right } = pair;
+        if left.len == 0 || right.len == 0 || left.start + left.len < right.start {
+            return false;
+        }
+        self.compare(right.start - 1, right.start) == Ordering::Less
+    }
+
+    // Makes one run of two, where the first starts, with the words n further on to work in.
+    fn join(&mut self, pair: Pair) -> usize
+        requires { Near self.old.ws.now self.old.n self.old.m pair.left pair.right }
+        ensures { Did (λ ws ws' n m. Joins ws ws' n m pair.left pair.right result) self.old self.new }
+    {
+        if self.meets(pair) {
+            return pair.left.len + pair.right.len;
+        }
+        let to = pair.left.start + self.n;
+        let d = self.merge(pair, to);
+        self.ws.copy_within(to..to + d, pair.left.start);
+        d
+    }
+
+    // Sorts two ids at lo.
+    fn sort_two(&mut self, lo: usize) -> usize
+        requires { Area self.old.ws.now self.old.n self.old.m lo 2 }
+        ensures { Did (λ ws ws' n m. Ran ws ws' n m lo 2 result) self.old self.new }
+    {
+        let hi = lo + 1;
+        match self.compare(lo, hi) {
+            Ordering::Less => 2,
+            Ordering::Equal => 1,
+            Ordering::Greater => {
+                self.ws.swap(lo, hi);
+                2
+            }
+        }
+    }
+
+    // Sorts the k ids at lo, with the k words n further on to work in.
+    fn sort_run(&mut self, lo: usize, k: usize) -> usize
+        requires { Area self.old.ws.now self.old.n self.old.m lo k }
+        ensures { Did (λ ws ws' n m. Ran ws ws' n m lo k result) self.old self.new }
+    {
+        if k < 2 {
+            return k;
+        }
+        if k == 2 {
+            return self.sort_two(lo);
+        }
+        let h = k / 2;
+        let mid = lo + h;
+        let a = self.sort_run(lo, h);
+        let b = self.sort_run(mid, k - h);
+        self.join(Pair {
+            left: Stretch { start: lo, len: a },
+            right: Stretch { start: mid, len: b },
+        })
+    }
+
+    // Whether the k words at base are ids.
+    fn are_ids(&self, base: usize, k: usize) -> bool
+        requires { base + k ≤ length self.now.ws.now }
+        ensures { Says result (Below self.now.ws.now self.now.n base k) }
+    {
+        self.ws[base..base + k]
+            .iter()
+            .all(|w| (*w as usize) < self.n)
+    }
 }
 
 // Sorts the k ids at the start of the work area by the order of their keys, and keeps one of those whose keys are equal.
@@ -202,8 +219,9 @@ pub fn sort(ws: &mut [u32], n: usize, m: usize, k: usize) -> Result<usize, Broke
     ensures { Sorts ws.old ws.new n m k result }
 {
     let base = n + n + n + n + m + m;
-    if !are_ids(ws, n, base, k) {
+    let mut work = Work { ws, n, m };
+    if !work.are_ids(base, k) {
         return Err(Broken);
     }
-    Ok(sort_run(ws, n, m, base, k))
+    Ok(work.sort_run(base, k))
 }

@@ -7,6 +7,7 @@
 //     n + n + n      n        the id that went into the same bucket before each id
 //
 // The key of an id is not here: it is the id's key row in the stored nodes (crate `rows`), whose words `ask` only reads.
+// `enter` and `leave` take n beside the words: a caller lends them (document 01). `ask` has n from the `Nodes` that it is lent.
 // An id is in one bucket at most, that of its key's hash. `Table` of specs/Table.antt says which table the words hold.
 #![tactic(auto)]
 
@@ -22,7 +23,9 @@ ghost use Rattle.table.specs.Entering.{Entered};
 ghost use Rattle.table.specs.Leaving.{Departed};
 
 use broken::Broken;
+use cells::Pool;
 use language::{Id, Node};
+use rows::Nodes;
 
 const WORDS: u64 = 4294967296;
 
@@ -36,54 +39,53 @@ pub fn bucket(node: Node, n: usize) -> usize
     r as usize
 }
 
-// Whether the key of an id is the one that is looked for.
-fn compare(rows: &[u32], n: usize, m: usize, id: Id, node: Node) -> Result<bool, Broken>
-    requires { (length rows.now ≡ size n m) × (id.0 < n) × (node.count ≤ places) }
-    ensures { Compares rows.now n m id.0 (node_of node) result }
+// Whether the key of an id is the one that is looked for. The key stands in the words, so no derive can compare it.
+fn compare(nodes: &Nodes<'_>, id: Id, node: Node) -> Result<bool, Broken>
+    requires { (id.0 < nodes.now.n) × (node.count ≤ places) }
+    ensures { Compares nodes.now.ws.now nodes.now.n nodes.now.m id.0 (node_of node) result }
 {
-    let key = rows::key(rows, n, m, id)?;
+    let key = nodes.key(id)?;
     Ok(key.same(node))
 }
 
 // The id in one bucket that has a key, from the bucket's end.
-fn seek(
-    ts: &[u32],
-    rows: &[u32],
-    n: usize,
-    m: usize,
-    bucket: usize,
-    node: Node,
-) -> Result<Option<Id>, Broken>
-    requires room { Room ts.now n n }
-    requires rows_len { (length rows.now ≡ size n m) × (bucket < n) × (node.count ≤ places) }
-    ensures { Sought ts.now rows.now n m bucket (node_of node) result }
+fn seek(ts: &[u32], nodes: &Nodes<'_>, bucket: usize, node: Node) -> Result<Option<Id>, Broken>
+    requires room { Room ts.now nodes.now.n nodes.now.n }
+    requires bucket_lt_n { (bucket < nodes.now.n) × (node.count ≤ places) }
+    ensures { Sought ts.now nodes.now.ws.now nodes.now.n nodes.now.m bucket (node_of node) result }
 {
-    let size = cells::len(ts, n, bucket);
+    let n = nodes.n;
+    let pool = Pool {
+        ws: ts,
+        lists: n,
+        cells: n,
+    };
+    let size = pool.len(bucket);
     if size > n {
         return Err(Broken);
     }
-    let mut cur = cells::last(ts, n, bucket);
+    let mut cur = pool.last(bucket);
     for passed in 0..size {
         if cur >= n {
             return Err(Broken);
         }
         let id = Id(cur as u32);
-        if compare(rows, n, m, id, node)? {
+        if compare(nodes, id, node)? {
             return Ok(Some(id));
         }
-        cur = cells::link(ts, n, n, cur);
+        cur = pool.link(cur);
     }
     Ok(None)
 }
 
 // The id in the table whose key is this node.
-pub fn ask(ts: &[u32], rows: &[u32], n: usize, m: usize, node: Node) -> Result<Option<Id>, Broken>
-    requires room { Room ts.now n n }
-    requires rows_len { (length rows.now ≡ size n m) × (1 ≤ n) × (n ≤ 65536) × (node.count ≤ places) }
-    ensures { Answers ts.now rows.now n m (node_of node) result }
+pub fn ask(ts: &[u32], nodes: &Nodes<'_>, node: Node) -> Result<Option<Id>, Broken>
+    requires room { Room ts.now nodes.now.n nodes.now.n }
+    requires n_in_range { (1 ≤ nodes.now.n) × (nodes.now.n ≤ 65536) × (node.count ≤ places) }
+    ensures { Answers ts.now nodes.now.ws.now nodes.now.n nodes.now.m (node_of node) result }
 {
-    let b = bucket(node, n);
-    seek(ts, rows, n, m, b, node)
+    let b = bucket(node, nodes.n);
+    seek(ts, nodes, b, node)
 }
 
 // Puts an id, which is in no bucket, into the bucket of its key.

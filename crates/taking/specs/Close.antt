@@ -1,6 +1,6 @@
 -- One entry closed: its key is set in the table, and if the key had an id before, the two are united. The machine's `close`.
 -- Assumes nothing.
-use Rattle.std.specs.Prelude.{None, Ok, Result, Some, Bool, false, true, List, ◌≡◌, refl, ◌<◌, ℕ, length, Option}
+use Rattle.std.specs.Prelude.{None, Ok, Result, Some, false, List, ◌≡◌, refl, ℕ, length, Option}
 use Rattle.broken.specs.declared.Broken.{Broken}
 use Rattle.broken.specs.Words.{broken}
 use Rattle.std.proofs.Common.{◌∙◌, ap, sym}
@@ -17,8 +17,7 @@ use Rattle.layout.specs.declared.Head.{Head}
 use Rattle.taking.specs.Leave.{was}
 use Rattle.taking.specs.Rekey.{RekeySays, Ripe}
 use Rattle.uniting.specs.Near.{NearIds}
-use Rattle.uniting.specs.Says.{UniteSays, told}
-use Rattle.uniting.specs.declared.United.{United}
+use Rattle.uniting.specs.Says.{UniteSays, United, told}
 
 -- the entry of id i in the graph g
 abbrev pub closing : Graph → ℕ → Joined
@@ -72,10 +71,6 @@ module _ (h : Head) (i : ℕ) (ws ws1 : List ℕ) (ok : HeadOk (length ws) h) (r
   }
 
   module _ (x : Id) (e : r1 ≡ Ok (Some x)) where
-    -- what `unite` asks for
-    pub close_asks : i < h.ids → HeadOk (length ws1) h × ((x.0 < h.ids) × (i < h.ids))
-    close_asks l = (subst (λ (n : ℕ). HeadOk n h) (sym K.inside.size) ok, (K.range x e, l))
-
     module _ (ws2 : List ℕ) (r2 : Result United Broken) (U : UniteSays h x.0 i ws1 r2 ws2) where
       joined : (g : Graph) (u : ℕ) → HoldsAt h u (view h.n h.m ws) g → Ripe g i
           → (k : Head) × (r2 ≡ told (closing g i).answer k) × HoldsAt k u (view h.n h.m ws2) (closing g i).graph

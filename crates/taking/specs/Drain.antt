@@ -1,6 +1,6 @@
 -- Entries taken until none is pending. What `drain_within` promises, the invariant of its loop, and one law for each way out.
 -- Assumes nothing.
-use Rattle.std.specs.Prelude.{Bool, None, Ok, Option, Result, Some, false, true, List, [], ◌⊎◌, ◌≡◌, refl, ◌+◌, ◌-◌, ◌<◌, ◌≤◌, ℕ, length}
+use Rattle.std.specs.Prelude.{Bool, Err, None, Ok, Option, Result, Some, false, true, List, [], ◌⊎◌, ◌≡◌, refl, ◌+◌, ◌-◌, ◌<◌, ◌≤◌, ℕ, length}
 use Rattle.broken.specs.declared.Broken.{Broken}
 use Rattle.broken.specs.Words.{broken}
 use Rattle.std.proofs.Common.{inl, inr, ap, subst, sym, arith}
@@ -18,9 +18,19 @@ use Rattle.layout.specs.View.{View, view}
 use Rattle.layout.specs.declared.Head.{Head}
 use Rattle.taking.specs.Entry.{EntrySays, Open}
 use Rattle.taking.specs.declared.Drained.{Drained}
-use Rattle.uniting.specs.Says.{united}
-use Rattle.uniting.specs.declared.United.{United}
+use Rattle.uniting.specs.Says.{United, answered}
 use Rattle.uniting.specs.Near.{NearIds, inside_near, near_then, view_near}
+
+-- what a drain answers, with the head that is left
+pub record DrainedTo : Type 0 where
+  pub head : Head
+  pub yes : ℕ
+  pub taken : ℕ
+
+-- the answer of a drain with the head that is left, where it was not refused
+abbrev pub drained : Head → Result Drained Broken → Result DrainedTo Broken
+drained k (Ok d) = Ok (record { head = k; yes = d.yes; taken = d.taken })
+drained k (Err e) = Err e
 
 -- a graph that a rebuild may start from: unclean, or with nothing pending
 pub record Startable (us : List (ℕ × ℕ)) (g : Graph) : Type 0 where
@@ -29,7 +39,7 @@ pub record Startable (us : List (ℕ × ℕ)) (g : Graph) : Type 0 where
   pub soft : (g.clean ≡ false) ⊎ (g.pending ≡ [])
 
 -- the graph that is left, with nothing pending: z is the rebuilt graph, once it is marked clean
-pub record Emptied (us : List (ℕ × ℕ)) (u : ℕ) (z : Graph) (y t : ℕ) (v : View) (r : Result Drained Broken) : Type 0 where
+pub record Emptied (us : List (ℕ × ℕ)) (u : ℕ) (z : Graph) (y t : ℕ) (v : View) (r : Result DrainedTo Broken) : Type 0 where
   pub head : Head
   pub answer : r ≡ Ok (record { head = head; yes = y; taken = t })
   pub graph : Graph
@@ -38,9 +48,9 @@ pub record Emptied (us : List (ℕ × ℕ)) (u : ℕ) (z : Graph) (y t : ℕ) (v
   pub empty : graph.pending ≡ []
   pub holds : HoldsAt head u v graph
 
-pub record DrainSays (h : Head) (fuel : ℕ) (ws : List ℕ) (r : Result Drained Broken) (ws' : List ℕ) : Type 0 where
+pub record DrainSays (h : Head) (fuel : ℕ) (ws : List ℕ) (r : Result DrainedTo Broken) (ws' : List ℕ) : Type 0 where
   pub inside : Inside h.n h.m ws ws'
-  pub range : (d : Drained) → r ≡ Ok d → NearIds (length ws) h d.head
+  pub range : (d : DrainedTo) → r ≡ Ok d → NearIds (length ws) h d.head
   pub sound : (g : Graph) (u : ℕ) (us : List (ℕ × ℕ)) → HoldsAt h u (view h.n h.m ws) g → Startable us g
       → (y t : ℕ) (z : Graph) → Rebuild g y t z → t < fuel → Emptied us u z y t (view h.n h.m ws') r
 
@@ -94,10 +104,6 @@ after {us} {g} O ne = record {
 }
 
 module _ (h : Head) (fuel : ℕ) (ws₀ : List ℕ) (k : Head) (ws : List ℕ) (left yes taken : ℕ) (G : Going h fuel ws₀ k ws left yes taken) where
-  -- what an entry asks for
-  pub going_ok : HeadOk (length ws) k
-  going_ok = subst (λ (n : ℕ). HeadOk n k) (sym G.inside.size) G.near.near.ok
-
   pub drain_spent : left ≡ 0 → DrainSays h fuel ws₀ broken ws
   drain_spent e = record {
     inside = G.inside;
@@ -122,13 +128,13 @@ module _ (h : Head) (fuel : ℕ) (ws₀ : List ℕ) (k : Head) (ws : List ℕ) (
         let q = s.1 in
         zero_one cc
 
-    abbrev pub drained : Drained
-    drained = record { head = k; yes = yes; taken = taken }
+    abbrev pub all : DrainedTo
+    all = record { head = k; yes = yes; taken = taken }
 
-    pub drain_done : r ≡ Ok None → DrainSays h fuel ws₀ (Ok drained) ws1
+    pub drain_done : r ≡ Ok None → DrainSays h fuel ws₀ (Ok all) ws1
     drain_done e = record {
       inside = inside1;
-      range = λ d q. let z : drained ≡ d = cc in subst (λ (x : Drained). NearIds (length ws₀) h x.head) z G.near;
+      range = λ d q. let z : all ≡ d = cc in subst (λ (x : DrainedTo). NearIds (length ws₀) h x.head) z G.near;
       sound = λ g u us H S y t z R l.
           let p = G.sound g u us H S y t z R l in
           let a = at_end us u p.graph z p.yes_left p.left p.holds p.start p.rest e in
@@ -138,9 +144,9 @@ module _ (h : Head) (fuel : ℕ) (ws₀ : List ℕ) (k : Head) (ws : List ℕ) (
     }
 
     -- never broken on words that hold a graph
-    answered : {A : Type 0} (us : List (ℕ × ℕ)) (u : ℕ) (g z : Graph) (yl tl : ℕ) → HoldsAt k u (view h.n h.m ws) g → Startable us g → Rebuild g yl tl z → r ≡ broken → A
-    answered us u g z yl tl H S (done e) f = let q = (E.none g u (seen u g H) e).0 in zero_one cc
-    answered us u g z yl tl H S (more ne R) f =
+    never_broken : {A : Type 0} (us : List (ℕ × ℕ)) (u : ℕ) (g z : Graph) (yl tl : ℕ) → HoldsAt k u (view h.n h.m ws) g → Startable us g → Rebuild g yl tl z → r ≡ broken → A
+    never_broken us u g z yl tl H S (done e) f = let q = (E.none g u (seen u g H) e).0 in zero_one cc
+    never_broken us u g z yl tl H S (more ne R) f =
         let s = E.some g u us (seen u g H) (opened S ne) ne in
         let q = s.1 in
         zero_one cc
@@ -151,7 +157,7 @@ module _ (h : Head) (fuel : ℕ) (ws₀ : List ℕ) (k : Head) (ws : List ℕ) (
       range = λ d q. zero_one cc;
       sound = λ g u us H S y t z R l.
           let p = G.sound g u us H S y t z R l in
-          answered us u p.graph z p.yes_left p.left p.holds p.start p.rest e;
+          never_broken us u p.graph z p.yes_left p.left p.holds p.start p.rest e;
     }
 
     -- one entry more
@@ -168,7 +174,7 @@ module _ (h : Head) (fuel : ℕ) (ws₀ : List ℕ) (k : Head) (ws : List ℕ) (
           let O = opened S ne in
           let a = E.some g u us (seen u g H) O ne in
           let f = a.1 in
-          let same : united (step g g.pending).answer a.0 ≡ s = cc in
+          let same : answered (step g g.pending).answer a.0 ≡ s = cc in
           let p : a.0 ≡ s.head = ap (λ (x : United). x.head) same in
           let q : count (step g g.pending).answer ≡ d = ap (λ (x : United). count x.joined) same in
           record {

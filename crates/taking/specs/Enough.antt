@@ -12,25 +12,15 @@ use Rattle.closure.specs.Sums.{sizes}
 use Rattle.closure.specs.Taking.{step_good}
 use Rattle.holds.specs.Holds.{HoldsAt}
 use Rattle.holds.specs.Inside.{Inside}
-use Rattle.layout.specs.Head.{HeadOk}
 use Rattle.layout.specs.View.{View, view}
 use Rattle.layout.specs.declared.Head.{Head}
-use Rattle.taking.specs.Drain.{DrainSays, Emptied, Startable}
+use Rattle.taking.specs.Drain.{DrainSays, DrainedTo, Emptied, Startable}
 use Rattle.taking.specs.Sizes.{parents_pending, parents_size}
-use Rattle.taking.specs.declared.Drained.{Drained}
 use Rattle.uniting.specs.Near.{NearIds}
 
 -- an entry of pending stands for as many ids as there are places, or for one; and each merge pushes no more than all places
 abbrev pub enough : Head → ℕ
 enough h = h.depth * (h.places + 1) + h.classes * h.places + 1
-
-pub enough_fits : (len : ℕ) (h : Head) → HeadOk len h → (h.depth * (h.places + 1) ≤ 131072 * 262145) × (h.classes * h.places ≤ 65536 * 262144)
-enough_fits len h ok =
-    let d : h.depth ≤ 131072 = omega arith in
-    let p : h.places ≤ 262144 = omega arith in
-    let q : h.places + 1 ≤ 262145 = omega arith in
-    let c : h.classes ≤ 65536 = omega arith in
-    (mul-le-mul d q, mul-le-mul c p)
 
 rebuild_measure : (us : List (ℕ × ℕ)) {g z : Graph} {y t : ℕ} → Rebuild g y t z → Good Same us g → t ≤ measure g
 rebuild_measure us (done e) G = omega arith
@@ -53,7 +43,7 @@ measure_low {h} {u} {v} {g} H =
 -- ---- what `drain` promises
 
 -- the graph g is rebuilt, but for the mark
-pub record Rebuilds (us : List (ℕ × ℕ)) (u : ℕ) (g : Graph) (v : View) (r : Result Drained Broken) : Type 0 where
+pub record Rebuilds (us : List (ℕ × ℕ)) (u : ℕ) (g : Graph) (v : View) (r : Result DrainedTo Broken) : Type 0 where
   pub head : Head
   pub yeses : ℕ
   pub entries : ℕ
@@ -64,12 +54,12 @@ pub record Rebuilds (us : List (ℕ × ℕ)) (u : ℕ) (g : Graph) (v : View) (r
   pub empty : graph.pending ≡ []
   pub holds : HoldsAt head u v graph
 
-pub record DrainsAll (h : Head) (ws : List ℕ) (r : Result Drained Broken) (ws' : List ℕ) : Type 0 where
+pub record DrainsAll (h : Head) (ws : List ℕ) (r : Result DrainedTo Broken) (ws' : List ℕ) : Type 0 where
   pub inside : Inside h.n h.m ws ws'
-  pub range : (d : Drained) → r ≡ Ok d → NearIds (length ws) h d.head
+  pub range : (d : DrainedTo) → r ≡ Ok d → NearIds (length ws) h d.head
   pub sound : (g : Graph) (u : ℕ) (us : List (ℕ × ℕ)) → HoldsAt h u (view h.n h.m ws) g → Startable us g → Rebuilds us u g (view h.n h.m ws') r
 
-rebuilds : {us : List (ℕ × ℕ)} {u : ℕ} {g z : Graph} {y t : ℕ} {v : View} {r : Result Drained Broken} → Rebuild g y t z → Emptied us u z y t v r → Rebuilds us u g v r
+rebuilds : {us : List (ℕ × ℕ)} {u : ℕ} {g z : Graph} {y t : ℕ} {v : View} {r : Result DrainedTo Broken} → Rebuild g y t z → Emptied us u z y t v r → Rebuilds us u g v r
 rebuilds {us} {u} {g} {z} {y} {t} {v} {r} R E = record {
   head = E.head;
   yeses = y;
@@ -82,7 +72,7 @@ rebuilds {us} {u} {g} {z} {y} {t} {v} {r} R E = record {
   holds = E.holds;
 }
 
-pub drains_all : (h : Head) (ws : List ℕ) (r : Result Drained Broken) (ws' : List ℕ) (fuel : ℕ) → fuel ≡ enough h → DrainSays h fuel ws r ws' → DrainsAll h ws r ws'
+pub drains_all : (h : Head) (ws : List ℕ) (r : Result DrainedTo Broken) (ws' : List ℕ) (fuel : ℕ) → fuel ≡ enough h → DrainSays h fuel ws r ws' → DrainsAll h ws r ws'
 drains_all h ws r ws' fuel e D = record {
   inside = D.inside;
   range = D.range;

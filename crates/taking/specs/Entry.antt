@@ -1,12 +1,11 @@
 -- One entry of pending, taken and closed: the machine's `step`. What `one_entry` promises.
 -- Assumes nothing.
-use Rattle.std.specs.Prelude.{None, Ok, Option, Result, Some, Bool, false, true, List, [], ◌∷◌, ◌≢◌, ◌≡◌, refl, ◌<◌, ◌≤◌, ℕ, length}
+use Rattle.std.specs.Prelude.{Err, None, Ok, Option, Result, Some, Bool, false, List, [], ◌∷◌, ◌≢◌, ◌≡◌, refl, ℕ, length}
 use Rattle.broken.specs.declared.Broken.{Broken}
 use Rattle.broken.specs.Words.{broken}
-use Rattle.std.proofs.Common.{◌∙◌, ap, sym, arith}
+use Rattle.std.proofs.Common.{ap, sym}
 use Rattle.std.proofs.Math.Path.{subst}
 use Rattle.lists.specs.Tests.{zero_one}
-use Rattle.language.specs.declared.Id.{Id}
 use Rattle.steps.specs.Graph.{Graph}
 use Rattle.steps.specs.Machine.{popped, step}
 use Rattle.closure.specs.Invariant.{Good, Same}
@@ -14,15 +13,12 @@ use Rattle.closure.specs.Slots.{Keyed}
 use Rattle.closure.specs.Taking.{top_lt}
 use Rattle.holds.specs.Holds.{HoldsAt}
 use Rattle.holds.specs.Inside.{Inside, inside_then}
-use Rattle.layout.specs.Head.{HeadOk}
 use Rattle.layout.specs.View.{View, view}
 use Rattle.layout.specs.declared.Head.{Head}
 use Rattle.taking.specs.Close.{CloseSays, closing}
 use Rattle.taking.specs.Rekey.{Ripe}
-use Rattle.taking.specs.Take.{TakeSays, taken}
-use Rattle.taking.specs.declared.Taken.{Taken}
-use Rattle.uniting.specs.Says.{told, united}
-use Rattle.uniting.specs.declared.United.{United}
+use Rattle.taking.specs.Take.{TakeSays, Taken, entry}
+use Rattle.uniting.specs.Says.{United, answered, told}
 use Rattle.uniting.specs.Near.{NearIds, inside_near, near_then, view_near}
 
 -- what a rebuild keeps: the invariant of closure, a table that leads from a live key to an id that has it, and an unclean graph
@@ -31,19 +27,25 @@ pub record Open (us : List (ℕ × ℕ)) (g : Graph) : Type 0 where
   pub keyed : Keyed g.nodes g.roots g.memo
   pub unclean : g.clean ≡ false
 
+-- an answer of `one_entry` with the head that is left, where it was not refused
+abbrev pub closed : Head → Result (Option Bool) Broken → Result (Option United) Broken
+closed k (Ok (Some b)) = Ok (Some (answered b k))
+closed k (Ok None) = Ok None
+closed k (Err e) = Err e
+
 pub record EntrySays (h : Head) (ws : List ℕ) (r : Result (Option United) Broken) (ws' : List ℕ) : Type 0 where
   pub inside : Inside h.n h.m ws ws'
   pub range : (s : United) → r ≡ Ok (Some s) → NearIds (length ws) h s.head
   pub none : (g : Graph) (u : ℕ) → HoldsAt h u (view h.n h.m ws) g → g.pending ≡ [] → (r ≡ Ok None) × (ws' ≡ ws)
   pub some : (g : Graph) (u : ℕ) (us : List (ℕ × ℕ)) → HoldsAt h u (view h.n h.m ws) g → Open us g → g.pending ≢ []
-      → (s : Head) × (r ≡ Ok (Some (united (step g g.pending).answer s))) × HoldsAt s u (view h.n h.m ws') (step g g.pending).graph
+      → (s : Head) × (r ≡ Ok (Some (answered (step g g.pending).answer s))) × HoldsAt s u (view h.n h.m ws') (step g g.pending).graph
 
 -- ---- the ways out
 
 module _ (h : Head) (ws ws1 : List ℕ) (r1 : Result (Option Taken) Broken) (T : TakeSays h ws r1 ws1) where
   -- where something is pending, the first is taken
   module _ (g : Graph) (u : ℕ) (us : List (ℕ × ℕ)) (H : HoldsAt h u (view h.n h.m ws) g) (O : Open us g) where
-    first : (i : ℕ) (rest : List ℕ) → g.pending ≡ i ∷ rest → (k : Head) × (r1 ≡ Ok (Some (taken i k))) × HoldsAt k u (view h.n h.m ws1) (popped g rest)
+    first : (i : ℕ) (rest : List ℕ) → g.pending ≡ i ∷ rest → (k : Head) × (r1 ≡ Ok (Some (entry i k))) × HoldsAt k u (view h.n h.m ws1) (popped g rest)
     first i rest e = T.some g u H i rest e (top_lt us g i rest O.good e)
 
     taken_some : {A : Type 0} → g.pending ≢ [] → ((x : Taken) → r1 ≡ Ok (Some x) → A) → A
@@ -51,7 +53,7 @@ module _ (h : Head) (ws ws1 : List ℕ) (r1 : Result (Option Taken) Broken) (T :
       where
         go : (l : List ℕ) → g.pending ≡ l → A
         go [] e = absurd (ne e)
-        go (i ∷ rest) e = let t = first i rest e in f (taken i t.0) t.1
+        go (i ∷ rest) e = let t = first i rest e in f (entry i t.0) t.1
 
   pub entry_none : r1 ≡ Ok None → EntrySays h ws (Ok None) ws1
   entry_none e = record {
@@ -76,17 +78,13 @@ module _ (h : Head) (ws ws1 : List ℕ) (r1 : Result (Option Taken) Broken) (T :
     near : NearIds (length ws) h k
     near = (T.range x e1).1
 
-    -- what `close` asks for
-    pub entry_asks : HeadOk (length ws1) x.head × (x.id.0 < x.head.ids)
-    entry_asks = (subst (λ (n : ℕ). HeadOk n k) (sym T.inside.size) near.near.ok, subst (λ (n : ℕ). x.id.0 < n) (sym near.ids_is) (T.range x e1).0)
-
     -- the id and its entry are as the graph has them
     ready : (g : Graph) (u : ℕ) (us : List (ℕ × ℕ)) → HoldsAt h u (view h.n h.m ws) g → Open us g → (i : ℕ) (rest : List ℕ) → g.pending ≡ i ∷ rest
         → (i ≡ x.id.0) × HoldsAt k u (view k.n k.m ws1) (popped g rest)
     ready g u us H O i rest e =
         let t = first g u us H O i rest e in
         let f = t.1 in
-        let same : taken i t.0 ≡ x = cc in (
+        let same : entry i t.0 ≡ x = cc in (
           ap (λ (y : Taken). y.id.0) same,
           subst (λ (v : View). HoldsAt k u v (popped g rest)) (sym (view_near near ws1)) (subst (λ (s : Taken). HoldsAt s.head u (view h.n h.m ws1) (popped g rest)) same t.2),
         )
@@ -139,6 +137,6 @@ module _ (h : Head) (ws ws1 : List ℕ) (r1 : Result (Option Taken) Broken) (T :
         some = λ g u us H O ne.
             let c = closes g u us H O ne in
             let b = c.1 in
-            let z : s ≡ united (step g g.pending).answer c.0 = cc in
+            let z : s ≡ answered (step g g.pending).answer c.0 = cc in
             (c.0, ap (λ (y : United). Ok (Some y)) z, c.2);
       }

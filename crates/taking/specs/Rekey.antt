@@ -1,9 +1,10 @@
 -- The table's entry for the key of an id is set to it: the machine's `keyed`. The graph is unclean, as it is while entries are pending.
 -- Assumes nothing.
-use Rattle.std.specs.Prelude.{Ok, Option, Result, Some, true, false, List, ◌∷◌, ◌≡◌, ◌<◌, ℕ}
+use Rattle.std.specs.Prelude.{Ok, Option, Result, Some, false, List, ◌∷◌, ◌≡◌, ◌<◌, ℕ}
 use Rattle.broken.specs.declared.Broken.{Broken}
 use Rattle.broken.specs.Words.{broken}
 use Rattle.std.proofs.Common.{◌∙◌, subst, sym}
+use Rattle.std.proofs.lemmas.Bool.{false≢true}
 use Rattle.lists.specs.Members.{Mem}
 use Rattle.lists.specs.Tests.{zero_one}
 use Rattle.language.specs.Struct.{node_of}
@@ -14,7 +15,7 @@ use Rattle.steps.specs.Graph.{Graph, ids, kept, key_of, node}
 use Rattle.steps.specs.Machine.{keyed}
 use Rattle.closure.specs.Tables.{Live, canon_live}
 use Rattle.holds.specs.Holds.{HoldsAt}
-use Rattle.holds.specs.HoldsLaws.{false≢true, root_again}
+use Rattle.holds.specs.HoldsLaws.{root_again}
 use Rattle.holds.specs.Inside.{Inside, inside_same, inside_then}
 use Rattle.holds.specs.Nodes.{Nodes}
 use Rattle.layout.specs.Cut.{rows, table}

@@ -2,7 +2,7 @@
 -- Assumes nothing.
 use Rattle.std.specs.Prelude.{Ok, Result, List, ◌∷◌, ◌≡◌, refl, ◌<◌, ℕ, length, Some}
 use Rattle.broken.specs.declared.Broken.{Broken}
-use Rattle.broken.specs.Words.{broken}
+use Rattle.broken.specs.Words.{apart, broken}
 use Rattle.std.proofs.Common.{subst}
 use Rattle.lists.specs.Tests.{zero_one}
 use Rattle.language.specs.Term.{Term}
@@ -37,9 +37,6 @@ pub record SettleSays (h : Head) (i : ℕ) (k : Term) (ws : List ℕ) (r : Resul
       → Vacant h.n v.table D.keys D.buckets i k
       → Settled h i k v ns roots memo r ws'
 
-apart : {A : Type 0} (r : Result Unit Broken) → r ≡ broken → r ≡ Ok tt → A
-apart r e f = zero_one cc
-
 module _ (h : Head) (i : ℕ) (k : Term) (ws ws1 : List ℕ) (d : Result Unit Broken) (L : VacateSays h i ws d ws1) where
   -- i is out
   left : (v : View) → view h.n h.m ws ≡ v → (ts₀ : List ℕ) (ns : List Term) (roots : List ℕ) (memo : List (Term × ℕ)) (D : Nodes h.n h.m v.rows ts₀ ns roots memo)
@@ -53,7 +50,7 @@ module _ (h : Head) (i : ℕ) (k : Term) (ws ws1 : List ℕ) (d : Result Unit Br
   pub settle_stuck : d ≡ broken → SettleSays h i k ws broken ws1
   settle_stuck e = record {
     inside = L.inside;
-    sound = λ v ev ts₀ ns roots memo D low key own W. apart d e (left v ev ts₀ ns roots memo D low W).0;
+    sound = λ v ev ts₀ ns roots memo D low key own W. apart e (left v ev ts₀ ns roots memo D low W).0;
   }
 
   module _ (ws2 : List ℕ) (q : Result Unit Broken) (K : Lent rows h.n h.m (λ w w'. Keyed w w' h.n h.m i k q) ws1 ws2) where

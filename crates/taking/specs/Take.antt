@@ -23,35 +23,48 @@ use Rattle.layout.specs.declared.Head.{Head}
 use Rattle.pending.specs.Promise.{PushesStretch, Tops}
 use Rattle.pending.specs.declared.OnTop.{OnTop}
 use Rattle.pending.specs.declared.OnTop.TheVariants.{TopMany, TopOne}
-use Rattle.taking.specs.declared.Taken.{Taken}
 use Rattle.uniting.specs.Near.{NearIds}
 
--- the numbers with the depth d of pending
+-- the head with the depth d of pending
 abbrev pub at_depth : Head → ℕ → Head
 at_depth h d = record { n = h.n; m = h.m; ids = h.ids; places = h.places; depth = d; classes = h.classes; clean = h.clean }
 
--- id i taken, with the numbers k
-abbrev pub taken : ℕ → Head → Taken
-taken i k = record { id = record { 0 = i }; head = k }
+-- an id taken, and the head that is left
+pub record Taken : Type 0 where
+  pub id : Id
+  pub head : Head
+
+abbrev pub entry : ℕ → Head → Taken
+entry i k = record { id = record { 0 = i }; head = k }
+
+-- an id that was handed out, and an answer of `take`, with the head that is left, where they were not refused
+abbrev pub handed : Head → Result Id Broken → Result Taken Broken
+handed k (Ok x) = Ok (entry x.0 k)
+handed k (Err e) = Err e
+
+abbrev pub taken : Head → Result (Option Id) Broken → Result (Option Taken) Broken
+taken k (Ok (Some x)) = Ok (Some (entry x.0 k))
+taken k (Ok None) = Ok None
+taken k (Err e) = Err e
 
 -- ---- the promises
 
 pub record Hands (h : Head) (d i : ℕ) (r : Result Taken Broken) : Type 0 where
-  pub known : i < h.ids → r ≡ Ok (taken i (at_depth h d))
+  pub known : i < h.ids → r ≡ Ok (entry i (at_depth h d))
   pub unknown : h.ids ≤ i → r ≡ broken
 
 pub record LastSays (h : Head) (place count : ℕ) (ws : List ℕ) (r : Result Taken Broken) (ws' : List ℕ) : Type 0 where
   pub inside : Inside h.n h.m ws ws'
   pub range : (x : Taken) → r ≡ Ok x → (x.id.0 < h.ids) × NearIds (length ws) h x.head
   pub sound : (g : Graph) (u : ℕ) → HoldsAt h u (view h.n h.m ws) g → (t : OnTop ℕ) → Tops (view h.n h.m ws).pending h.depth t → t ≡ TopMany place count
-      → (i : ℕ) (rest : List ℕ) → g.pending ≡ i ∷ rest → i < ids g → (k : Head) × (r ≡ Ok (taken i k)) × HoldsAt k u (view h.n h.m ws') (popped g rest)
+      → (i : ℕ) (rest : List ℕ) → g.pending ≡ i ∷ rest → i < ids g → (k : Head) × (r ≡ Ok (entry i k)) × HoldsAt k u (view h.n h.m ws') (popped g rest)
 
 pub record TakeSays (h : Head) (ws : List ℕ) (r : Result (Option Taken) Broken) (ws' : List ℕ) : Type 0 where
   pub inside : Inside h.n h.m ws ws'
   pub range : (x : Taken) → r ≡ Ok (Some x) → (x.id.0 < h.ids) × NearIds (length ws) h x.head
   pub none : (g : Graph) (u : ℕ) → HoldsAt h u (view h.n h.m ws) g → g.pending ≡ [] → (r ≡ Ok None) × (ws' ≡ ws)
   pub some : (g : Graph) (u : ℕ) → HoldsAt h u (view h.n h.m ws) g
-      → (i : ℕ) (rest : List ℕ) → g.pending ≡ i ∷ rest → i < ids g → (k : Head) × (r ≡ Ok (Some (taken i k))) × HoldsAt k u (view h.n h.m ws') (popped g rest)
+      → (i : ℕ) (rest : List ℕ) → g.pending ≡ i ∷ rest → i < ids g → (k : Head) × (r ≡ Ok (Some (entry i k))) × HoldsAt k u (view h.n h.m ws') (popped g rest)
 
 -- ---- on the view
 
@@ -83,12 +96,6 @@ module _ {h : Head} {u : ℕ} {v : View} {g : Graph} (H : HoldsAt h u v g) where
 
 -- ---- an id handed out
 
-pub hand_known : (h : Head) (d i : ℕ) → i < h.ids → Hands h d i (Ok (taken i (at_depth h d)))
-hand_known h d i l = record { known = λ _. refl; unknown = λ (z : h.ids ≤ i). absurd (omega arith) }
-
-pub hand_unknown : (h : Head) (d i : ℕ) → h.ids ≤ i → Hands h d i broken
-hand_unknown h d i l = record { known = λ (z : i < h.ids). absurd (omega arith); unknown = λ _. refl }
-
 near_depth : (len : ℕ) (h : Head) (d : ℕ) → HeadOk len h → d ≤ h.depth → NearIds len h (at_depth h d)
 near_depth len h d ok le = record { near = record { ok = omega arith; n_is = refl; m_is = refl }; ids_is = refl; places_is = refl }
 
@@ -99,7 +106,7 @@ hands_range len h d i r ok le K x e = go (lt_or i h.ids)
     go : (i < h.ids) ⊎ (h.ids ≤ i) → (x.id.0 < h.ids) × NearIds len h x.head
     go (inl l) =
         let f = K.known l in
-        let same : taken i (at_depth h d) ≡ x = cc in
+        let same : entry i (at_depth h d) ≡ x = cc in
         subst (λ (y : Taken). (y.id.0 < h.ids) × NearIds len h y.head) same (l, near_depth len h d ok le)
     go (inr l) = let f = K.unknown l in zero_one cc
 
@@ -126,7 +133,7 @@ module _ (h : Head) (ws : List ℕ) (ok : HeadOk (length ws) h) where
               let p = holds_popped H d j (at (view h.n h.m ws).owners place) rest a.new (omega (arith, L.did.high)) e P in
               let ij : i ≡ j = O.is ∙ p.0 in
               let low : i < h.ids = omega (arith, H.ids_are) in
-              (at_depth h d, K.known low ∙ ap (λ (x : ℕ). Ok (taken x (at_depth h d))) ij, subst (λ (z : View). HoldsAt (at_depth h d) u z (popped g rest)) (sym a.is) p.1);
+              (at_depth h d, K.known low ∙ ap (λ (x : ℕ). Ok (entry x (at_depth h d))) ij, subst (λ (z : View). HoldsAt (at_depth h d) u z (popped g rest)) (sym a.is) p.1);
         }
 
   -- ---- the ways out of `take`
@@ -161,7 +168,7 @@ module _ (h : Head) (ws : List ℕ) (ok : HeadOk (length ws) h) where
           let P = parents_take_one _ _ _ _ _ _ _ _ _ _ H.parents x t some T is in
           let p = holds_popped H (h.depth - 1) i x rest (view h.n h.m ws).pending (omega arith) e P in
           let low : x < h.ids = omega (arith, H.ids_are, p.0) in
-          (at_depth h (h.depth - 1), ap entry_of (K.known low) ∙ ap (λ (y : ℕ). Ok (Some (taken y (at_depth h (h.depth - 1))))) p.0, p.1);
+          (at_depth h (h.depth - 1), ap entry_of (K.known low) ∙ ap (λ (y : ℕ). Ok (Some (entry y (at_depth h (h.depth - 1))))) p.0, p.1);
     }
 
     pub take_many : (place count : ℕ) (ws1 : List ℕ) → t ≡ TopMany place count → LastSays h place count ws r ws1 → TakeSays h ws (entry_of r) ws1

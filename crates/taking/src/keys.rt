@@ -1,6 +1,6 @@
 // The key of an id brought up to date, in its row and in the table: the id that had this key before leaves the table.
-ghost use Rattle.std.specs.Prelude.{◌<◌, ◌≤◌, length};
-ghost use Rattle.layout.specs.Head.{HeadOk};
+ghost use Rattle.std.specs.Prelude.{◌≡◌, ◌<◌, ◌≤◌};
+ghost use Rattle.layout.specs.Did.{Did};
 ghost use Rattle.language.specs.Term.{places};
 ghost use Rattle.language.specs.Struct.{node_of};
 ghost use Rattle.taking.specs.Fresh.{FreshSays};
@@ -10,72 +10,67 @@ ghost use Rattle.taking.specs.Rekey.{RekeySays};
 
 use broken::Broken;
 use language::{Id, Node};
-use layout::Head;
+use layout::{Graph, GraphMut};
 
 // The key of an id: its node as it was given, with root children.
-pub fn fresh_key(ws: &[u32], h: Head, id: Id) -> Result<Node, Broken>
-    requires head_ok { HeadOk (length ws.now) h }
-    requires id_lt_ids { id.0 < h.ids }
-    ensures { FreshSays h id.0 ws.now result }
+pub fn fresh_key(g: &Graph<'_>, id: Id) -> Result<Node, Broken>
+    requires { id.0 < g.now.h.ids }
+    ensures { FreshSays g.now.h id.0 g.now.ws.now result }
 {
-    let node = parts::on_rows::given(ws, h, id)?;
-    if !growing::known(node, h.ids) {
+    let node = parts::on_rows::given(g, id)?;
+    if !growing::known(node, g.h.ids) {
         return Err(Broken);
     }
-    growing::with_roots(ws, h, node)
+    growing::with_roots(g, node)
 }
 
 // The id that has this key, if there is one, leaves the table.
-fn oust(ws: &mut [u32], h: Head, key: Node) -> Result<Option<Id>, Broken>
-    requires head_ok { HeadOk (length ws.old) h }
-    requires count_le_places { key.count ≤ places }
-    ensures { OustSays h (node_of key) ws.old result ws.new }
+fn oust(g: &mut GraphMut<'_>, key: Node) -> Result<Option<Id>, Broken>
+    requires { key.count ≤ places }
+    ensures { Did (λ ws ws'. OustSays g.old.h (node_of key) ws result ws') g.old g.new }
 {
-    let Some(old) = parts::on_table::ask(ws, h, key)? else {
+    let Some(old) = parts::on_table::ask(&g.view(), key)? else {
         return Ok(None);
     };
-    if h.ids <= old.0 as usize {
+    if g.h.ids <= old.0 as usize {
         return Err(Broken);
     }
-    let bucket = table::bucket(key, h.n);
-    if !parts::on_table::leave(ws, h, bucket, old)? {
+    let bucket = table::bucket(key, g.h.n);
+    if !parts::on_table::leave(g, bucket, old)? {
         return Err(Broken);
     }
     Ok(Some(old))
 }
 
 // An id leaves the table, where it stands under the key that was set last, if it is there.
-pub fn vacate(ws: &mut [u32], h: Head, id: Id) -> Result<(), Broken>
-    requires head_ok { HeadOk (length ws.old) h }
-    requires id_lt_ids { id.0 < h.ids }
-    ensures { VacateSays h id.0 ws.old result ws.new }
+pub fn vacate(g: &mut GraphMut<'_>, id: Id) -> Result<(), Broken>
+    requires { id.0 < g.old.h.ids }
+    ensures { Did (λ ws ws'. VacateSays g.old.h id.0 ws result ws') g.old g.new }
 {
-    let key = parts::on_rows::key(ws, h, id)?;
-    let bucket = table::bucket(key, h.n);
-    parts::on_table::leave(ws, h, bucket, id)?;
+    let key = parts::on_rows::key(&g.view(), id)?;
+    let bucket = table::bucket(key, g.h.n);
+    parts::on_table::leave(g, bucket, id)?;
     Ok(())
 }
 
 // An id gets another key: it leaves the table under the old one, and goes in under the new one.
-fn settle(ws: &mut [u32], h: Head, id: Id, key: Node) -> Result<(), Broken>
-    requires head_ok { HeadOk (length ws.old) h }
-    requires id_lt_ids { (id.0 < h.ids) × (key.count ≤ places) }
-    ensures { SettleSays h id.0 (node_of key) ws.old result ws.new }
+fn settle(g: &mut GraphMut<'_>, id: Id, key: Node) -> Result<(), Broken>
+    requires { (id.0 < g.old.h.ids) × (key.count ≤ places) }
+    ensures { Did (λ ws ws'. SettleSays g.old.h id.0 (node_of key) ws result ws') g.old g.new }
 {
-    vacate(ws, h, id)?;
-    parts::on_rows::set_key(ws, h, id, key)?;
-    let bucket = table::bucket(key, h.n);
-    parts::on_table::enter(ws, h, bucket, id)
+    vacate(g, id)?;
+    parts::on_rows::set_key(g, id, key)?;
+    let bucket = table::bucket(key, g.h.n);
+    parts::on_table::enter(g, bucket, id)
 }
 
 // The table's entry for the key of an id is set to it; the answer is the id that had the key before, if there was one.
-pub fn rekey(ws: &mut [u32], h: Head, id: Id) -> Result<Option<Id>, Broken>
-    requires head_ok { HeadOk (length ws.old) h }
-    requires id_lt_ids { id.0 < h.ids }
-    ensures { RekeySays h id.0 ws.old result ws.new }
+pub fn rekey(g: &mut GraphMut<'_>, id: Id) -> Result<Option<Id>, Broken>
+    requires { id.0 < g.old.h.ids }
+    ensures { Did (λ ws ws'. RekeySays g.old.h id.0 ws result ws') g.old g.new }
 {
-    let key = fresh_key(ws, h, id)?;
-    let was = oust(ws, h, key);
-    settle(ws, h, id, key)?;
+    let key = fresh_key(&g.view(), id)?;
+    let was = oust(g, key);
+    settle(g, id, key)?;
     was
 }

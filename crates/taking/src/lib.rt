@@ -1,4 +1,4 @@
-// One entry of a rebuild, inside a call, and the loop over all of them. The words are a graph's, with the head h read before (layout has their table):
+// One entry of a rebuild, inside a call, and the loop over all of them. An entry works on these parts of a graph's words (layout has their table):
 //
 //   part      what an entry does to it
 //   pending   the last id is taken: an entry of one id, or the last place of a stretch
@@ -8,23 +8,13 @@
 //   table     the id that had this key leaves, and the id goes in under it
 //   forest    if an id had the key, the two are united (crate `uniting`, which also works on uses, pending and members)
 //
-// The head in the words stays: a step answers the new numbers. What each function promises: specs/Take.antt, Rekey.antt, Close.antt and Enough.antt.
+// A step changes the head beside the words; the head in the words is written once, at the end of a call. What each function promises:
+// specs/Take.antt, Rekey.antt, Close.antt and Enough.antt.
 #![tactic(auto)]
 
-use language::Id;
-use layout::Head;
-
-// The id taken, and the new numbers of the head.
-#[derive(Clone, Copy)]
-pub struct Taken {
-    pub id: Id,
-    pub head: Head,
-}
-
-// Nothing is pending any more: the new numbers of the head, how many unions answered yes, and how many entries were taken.
+// Nothing is pending any more: how many unions answered yes, and how many entries were taken.
 #[derive(Clone, Copy)]
 pub struct Drained {
-    pub head: Head,
     pub yes: usize,
     pub taken: usize,
 }

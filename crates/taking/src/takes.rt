@@ -1,51 +1,56 @@
 // The last of pending is taken. A stretch of places stays on pending without the place that was taken.
-ghost use Rattle.std.specs.Prelude.{◌<◌, ◌^◌, length};
-ghost use Rattle.layout.specs.Head.{HeadOk};
-ghost use Rattle.taking.specs.Take.{Hands, LastSays, TakeSays};
+ghost use Rattle.std.specs.Prelude.{None, Ok, ◌≡◌, ◌<◌, ◌≤◌, ◌^◌};
+ghost use Rattle.layout.specs.Did.{SameLoan};
+ghost use Rattle.taking.specs.Take.{Hands, LastSays, TakeSays, handed, taken};
 
-use super::Taken;
 use broken::Broken;
 use language::Id;
-use layout::Head;
+use layout::GraphMut;
 use pending::OnTop;
 
-// The id, if it is one, with the depth that is left.
-fn hand(h: Head, depth: usize, id: Id) -> Result<Taken, Broken>
-    ensures { Hands h depth id.0 result }
+// The id, if it is one; the head beside the words then has the depth that is left.
+fn hand(g: &mut GraphMut<'_>, depth: usize, id: Id) -> Result<Id, Broken>
+    requires { depth ≤ g.old.h.depth }
+    ensures loan { SameLoan g.old g.new }
+    ensures words { g.new.ws.now ≡ g.old.ws.now }
+    ensures hands { Hands g.old.h depth id.0 (handed g.new.h result) }
 {
-    if h.ids <= id.0 as usize {
+    if g.h.ids <= id.0 as usize {
         return Err(Broken);
     }
-    let head = Head { depth, ..h };
-    Ok(Taken { id, head })
+    g.h.depth = depth;
+    Ok(id)
 }
 
 // Of a stretch of places the last is taken, and the others are put back.
-fn take_last(ws: &mut [u32], h: Head, place: usize, count: usize) -> Result<Taken, Broken>
-    requires head_ok { HeadOk (length ws.old) h }
-    requires depth_nonzero { (0 < h.depth) × (0 < count) × (count < 2 ^ 32) }
-    ensures { LastSays h place count ws.old result ws.new }
+fn take_last(g: &mut GraphMut<'_>, place: usize, count: usize) -> Result<Id, Broken>
+    requires { (0 < g.old.h.depth) × (0 < count) × (count < 2 ^ 32) }
+    ensures loan { SameLoan g.old g.new }
+    ensures says { LastSays g.old.h place count g.old.ws.now (handed g.new.h result) g.new.ws.now }
 {
+    let h = g.h;
     if h.m <= place {
         return Err(Broken);
     }
-    let id = parts::on_owners::owner(ws, h, place);
-    let before = parts::on_uses::link(ws, h, place);
-    let depth = parts::on_pending::push_stretch(ws, h, h.depth - 1, before, count - 1);
-    hand(h, depth, id)
+    let seen = g.view();
+    let id = parts::on_owners::owner(&seen, place);
+    let before = parts::on_uses::link(&seen, place);
+    let depth = parts::on_pending::push_stretch(g, h.depth - 1, before, count - 1);
+    hand(g, depth, id)
 }
 
 // The last of pending is taken, if there is one.
-pub fn take(ws: &mut [u32], h: Head) -> Result<Option<Taken>, Broken>
-    requires { HeadOk (length ws.old) h }
-    ensures { TakeSays h ws.old result ws.new }
+pub fn take(g: &mut GraphMut<'_>) -> Result<Option<Id>, Broken>
+    ensures loan { SameLoan g.old g.new }
+    ensures stays { result ≡ Ok None → g.new.h ≡ g.old.h }
+    ensures says { TakeSays g.old.h g.old.ws.now (taken g.new.h result) g.new.ws.now }
 {
-    let depth = h.depth;
+    let depth = g.h.depth;
     if depth == 0 {
         return Ok(None);
     }
-    match parts::on_pending::top(ws, h, depth) {
-        OnTop::TopOne(id) => Ok(Some(hand(h, depth - 1, id)?)),
-        OnTop::TopMany(place, count) => Ok(Some(take_last(ws, h, place, count)?)),
+    match parts::on_pending::top(&g.view(), depth) {
+        OnTop::TopOne(id) => Ok(Some(hand(g, depth - 1, id)?)),
+        OnTop::TopMany(place, count) => Ok(Some(take_last(g, place, count)?)),
     }
 }

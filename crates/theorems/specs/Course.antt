@@ -44,7 +44,7 @@ pub run_setup : (ws : List ℕ) (n m : ℕ) (r : Result Unit Refusal) (ws' : Lis
 run_setup ws n m r ws' s l h = record { made = start; holds = ((s.on l).on h).held }
 
 module _ (us : List (ℕ × ℕ)) (ws : List ℕ) (g : Graph) (C : Run us ws g) where
-  ids_in : (head_of ws).ids ≡ ids g
+  pub ids_in : (head_of ws).ids ≡ ids g
   ids_in = C.holds.at_rest.ids_are
 
   -- two known ids: one union more was asked for

@@ -25,10 +25,9 @@ use Rattle.egraph.specs.Unions.{UnionSays}
 use Rattle.extract.specs.Cost.{CostSays}
 use Rattle.extract.specs.Form.{FormSays, form_says}
 use Rattle.layout.specs.declared.Head.{Head}
-use Rattle.theorems.specs.Course.{Run, run_adding, run_rebuild, run_union}
+use Rattle.theorems.specs.Course.{Run, ids_in, run_adding, run_rebuild, run_union}
 use Rattle.theorems.specs.Forms.{BestForm, run_form}
-use Rattle.theorems.specs.Ladders.{two_or}
-use Rattle.theorems.specs.Outcomes.{clean_or, full_or, low_or, or_lt}
+use Rattle.theorems.specs.Outcomes.{clean_or, full_or, low_or, or_lt, two_or}
 use Rattle.theorems.specs.Sizes.{Smallest, run_cost}
 
 -- refused by k, and S: nothing has changed
@@ -52,11 +51,8 @@ pub record Goes (ws : List ℕ) (a : Answer) (vs ws' : List ℕ) (us : List (ℕ
   pub limits : SameLimits ws ws'
 
 module _ (us : List (ℕ × ℕ)) (ws : List ℕ) (g : Graph) (C : Run us ws g) where
-  ids_in : (head_of ws).ids ≡ ids g
-  ids_in = C.holds.at_rest.ids_are
-
   by_id : (i : ℕ) {N X Y : Type 0} → Else ((head_of ws).ids ≤ i) N (i < (head_of ws).ids) X → (i < ids g → X → Y) → IdLadder g i N Y
-  by_id i s f = record { no = λ h. s.no (omega (arith, ids_in)); on = λ h. f h (s.on (omega (arith, ids_in))) }
+  by_id i s f = record { no = λ h. s.no (omega (arith, ids_in us ws g C)); on = λ h. f h (s.on (omega (arith, ids_in us ws g C))) }
 
   by_clean : {N X Y : Type 0} → Unless7 ws N X → (g.clean ≡ true → X → Y) → CleanLadder g N Y
   by_clean s f = record { no = λ e. s.no (held_clean C.holds ∙ e); on = λ e. f e (s.on (held_clean C.holds ∙ e)) }
@@ -67,8 +63,8 @@ module _ (us : List (ℕ × ℕ)) (ws : List ℕ) (g : Graph) (C : Run us ws g) 
       record {
         no = t.no;
         on = λ few. record {
-          no = λ far. (t.on few).no (λ low. far (λ i h. omega (arith, low i h, ids_in)));
-          on = λ low. f few low ((t.on few).on (λ i h. omega (arith, low i h, ids_in)));
+          no = λ far. (t.on few).no (λ low. far (λ i h. omega (arith, low i h, ids_in us ws g C)));
+          on = λ low. f few low ((t.on few).on (λ i h. omega (arith, low i h, ids_in us ws g C)));
         };
       }
 
@@ -115,12 +111,12 @@ module _ (us : List (ℕ × ℕ)) (ws : List ℕ) (g : Graph) (C : Run us ws g) 
         no = λ h. t.no (far h);
         on = λ h.
             let o = run_union us ws g C i j r ws' s h.0 h.1 in
-            record { answer = o.0; run = o.1; limits = (t.on (omega (arith, h.0, ids_in), omega (arith, h.1, ids_in))).limits };
+            record { answer = o.0; run = o.1; limits = (t.on (omega (arith, h.0, ids_in us ws g C), omega (arith, h.1, ids_in us ws g C))).limits };
       }
     where
       far : (ids g ≤ i) ⊎ (ids g ≤ j) → ((head_of ws).ids ≤ i) ⊎ ((head_of ws).ids ≤ j)
-      far (inl h) = inl (omega (arith, ids_in))
-      far (inr h) = inr (omega (arith, ids_in))
+      far (inl h) = inl (omega (arith, ids_in us ws g C))
+      far (inr h) = inr (omega (arith, ids_in us ws g C))
 
   -- a node that the table has not, and no room for it: 6. `id` is what `add` or what `add_uncanonical` answers
   pub adding_held : (id : Graph → ℕ) (x : Node) (r : Result Id Refusal) (ws' : List ℕ) → AddingSays id ws x r ws'

@@ -27,7 +27,7 @@ use Rattle.layout.specs.Cut.{need}
 use Rattle.layout.specs.Head.{HeadOk, numbers}
 use Rattle.layout.specs.View.{hd}
 use Rattle.layout.specs.declared.Head.{Head}
-use Rattle.theorems.specs.Outcomes.{both_ends, clean_or, limits_or, low_or, or_lt}
+use Rattle.theorems.specs.Outcomes.{both_ends, clean_or, limits_or, low_or, or_lt, two_or}
 
 -- ---- decisions
 
@@ -59,15 +59,6 @@ good_or ws = go (lt_or 1 (at (hd ws) 6)) (ok_or (length ws) (numbers (hd ws)))
     go (inl a) o = inl (λ q. omega (arith, q.flag))
     go (inr a) (inl n) = inl (λ q. n q.ok)
     go (inr a) (inr o) = inr (record { flag = a; ok = o })
-
--- an unknown id among two, or both known
-pub two_or : (i j N : ℕ) → ((N ≤ i) ⊎ (N ≤ j)) ⊎ ((i < N) × (j < N))
-two_or i j N = go (lt_or i N) (lt_or j N)
-  where
-    go : (i < N) ⊎ (N ≤ i) → (j < N) ⊎ (N ≤ j) → ((N ≤ i) ⊎ (N ≤ j)) ⊎ ((i < N) × (j < N))
-    go (inr a) b = inl (inl a)
-    go (inl a) (inr b) = inl (inr b)
-    go (inl a) (inl b) = inr (a, b)
 
 -- ---- two outcomes on the same words
 

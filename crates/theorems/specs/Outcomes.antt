@@ -54,7 +54,16 @@ limits_or n m = go (lt_or n 1) (lt_or 65536 n) (lt_or 262144 m)
     go (inr a) (inr b) (inl c) = inl (λ l. omega (arith, l.m_high))
     go (inr a) (inr b) (inr c) = inr (record { n_low = a; n_high = b; m_high = c })
 
--- the other way round
+-- an unknown id among two, or both known
+pub two_or : (i j N : ℕ) → ((N ≤ i) ⊎ (N ≤ j)) ⊎ ((i < N) × (j < N))
+two_or i j N = go (lt_or i N) (lt_or j N)
+  where
+    go : (i < N) ⊎ (N ≤ i) → (j < N) ⊎ (N ≤ j) → ((N ≤ i) ⊎ (N ≤ j)) ⊎ ((i < N) × (j < N))
+    go (inr a) b = inl (inl a)
+    go (inl a) (inr b) = inl (inr b)
+    go (inl a) (inl b) = inr (a, b)
+
+-- `lt_or` the other way round
 pub or_lt : (x y : ℕ) → (y ≤ x) ⊎ (x < y)
 or_lt x y = go (lt_or x y)
   where
@@ -283,14 +292,9 @@ module _ (ws ws' : List ℕ) (g : Graph) (H : Holds ws g) (H' : Holds ws' g) (L 
 
   pub union_one : (i j : ℕ) (r r' : Result Bool Refusal) (ws1 ws1' : List ℕ) → UnionSays ws i j r ws1 → UnionSays ws' i j r' ws1' → One (flag_says r) (flag_says r') ws1 ws1'
   union_one i j r r' ws1 ws1' s t =
-      open_both s t (λ s t. both_ends (far (lt_or i (head_of ws).ids) (lt_or j (head_of ws).ids)) s
+      open_both s t (λ s t. both_ends (two_or i j (head_of ws).ids) s
       (subst (λ (k : ℕ). Else ((k ≤ i) ⊎ (k ≤ j)) ((flag_says r' ≡ no_by 4) × (ws1' ≡ ws')) ((i < k) × (j < k)) (UnionOpen ws' i j r' ws1')) ids_same t)
       (λ p q. refused p q) (λ p q. answered p.limits q.limits (p.sound g H) (q.sound g H')))
-    where
-      far : {N : ℕ} → (i < N) ⊎ (N ≤ i) → (j < N) ⊎ (N ≤ j) → ((N ≤ i) ⊎ (N ≤ j)) ⊎ ((i < N) × (j < N))
-      far (inr a) b = inl (inl a)
-      far (inl a) (inr b) = inl (inr b)
-      far (inl a) (inl b) = inr (a, b)
 
   -- ---- rebuild, of a graph that calls made
 

@@ -2,9 +2,8 @@
 -- Assumes nothing.
 use Rattle.std.specs.Prelude.{Ok, Result, true, List, [], map, ◌≡◌, refl, ◌+◌, ◌<◌, ◌≤◌, ℕ, length}
 use Rattle.broken.specs.declared.Broken.{Broken}
-use Rattle.broken.specs.Words.{broken}
+use Rattle.broken.specs.Words.{apart, broken}
 use Rattle.std.proofs.Common.{⊎_elim, ◌∙◌, ap, subst, arith}
-use Rattle.cells.specs.Changes.{change_apart}
 use Rattle.lists.specs.Members.{no_member}
 use Rattle.lists.specs.Reads.{set_all}
 use Rattle.lists.specs.Tests.{lt_or, zero_one}
@@ -101,7 +100,7 @@ module _ (h : Head) (ws : List ℕ) where
       inside = inside_then A.inside C.inside;
       exact = λ k (f : broken ≡ Ok k). zero_one cc;
       range = λ k (f : broken ≡ Ok k). zero_one cc;
-      sound = λ g u H now. let T = A.sound g u H now in absurd (change_apart r e (C.sound g u T.holds T.keys).0);
+      sound = λ g u H now. let T = A.sound g u H now in apart e (C.sound g u T.holds T.keys).0;
     }
 
   pub tidied_all : (i : ℕ) (ws' : List ℕ) → HeadOk (length ws) h → h.ids ≤ i → TidiedTo h ws ws' i → Tidies h ws (Ok (cleaned h)) ws'

@@ -2,10 +2,9 @@
 -- Assumes nothing.
 use Rattle.std.specs.Prelude.{Ok, Result, List, ◌++◌, ◌≡◌, refl, ◌+◌, ◌<◌, ◌≤◌, ℕ, length, take}
 use Rattle.broken.specs.declared.Broken.{Broken}
-use Rattle.broken.specs.Words.{broken}
+use Rattle.broken.specs.Words.{apart, broken}
 use Rattle.std.proofs.Common.{ap, subst, sym, arith}
 use Rattle.lists.specs.Tests.{zero_one}
-use Rattle.cells.specs.Changes.{change_apart}
 use Rattle.steps.specs.Graph.{Graph}
 use Rattle.cells.specs.Empty.{Emptied}
 use Rattle.cells.specs.Pool.{empty_l, row}
@@ -42,7 +41,7 @@ module _ (h : Head) (a : ℕ) (ws : List ℕ) (ok : HeadOk (length ws) h) (ha : 
     pub class_lost : r1 ≡ broken → TidiesClass h a ws broken ws1
     class_lost e = record {
       inside = inside1;
-      sound = λ g u H now. absurd (change_apart r1 e (C.did.law H.members.lists H.members.pool (class_length H a ha k W.exact)).0);
+      sound = λ g u H now. apart e (C.did.law H.members.lists H.members.pool (class_length H a ha k W.exact)).0;
     }
 
     module _ (ws2 : List ℕ) (r2 : Result ℕ Broken) (S : LentBoth h.n h.m (λ w w'. Sorts w w' h.n h.m k r2) ws1 ws2) where
@@ -71,13 +70,10 @@ module _ (h : Head) (a : ℕ) (ws : List ℕ) (ok : HeadOk (length ws) h) (ha : 
 
       module _ (d : ℕ) (er : r2 ≡ Ok d) (few : k ≤ h.n) where
         -- on any words
-        class_left : d ≤ h.n
+        pub class_left : d ≤ h.n
         class_left = omega (arith, (next2.did.done d er).few)
 
         module _ (ws3 : List ℕ) (E : Lent members h.n h.m (λ w w'. Emptied w w' h.n a) ws2 ws3) where
-          pub class_ready : HeadOk (length ws3) h × ((a < h.n) × (d ≤ h.n))
-          class_ready = let e : length ws ≡ length ws3 = omega (arith, E.size, inside2.size) in (subst (λ (l : ℕ). HeadOk l h) e ok, (ha, class_left))
-
           module _ (ws4 : List ℕ) (r4 : Result Unit Broken) (R : Lent members h.n h.m (Refills (view h.n h.m ws3).sorting h.n a d r4) ws3 ws4) where
             next3 : Next members h.n h.m (λ w w'. Emptied w w' h.n a) (put sorting (view h.n h.m ws) next2.new) ws3
             next3 = lent_next E next2.is

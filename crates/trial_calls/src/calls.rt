@@ -1,9 +1,4 @@
 // Each open call, with small arguments as they are drawn: its answer's number.
-//
-//     number    call
-//     0 ..      find, lookup, id_to_node, is_empty, clean, number_of_classes, total_number_of_nodes
-//     7 ..      setup, add, add_uncanonical, union, rebuild, find_best_cost
-//     13 ..     classes, classes_for_op, nodes, find_best
 ghost use Rattle.std.specs.Prelude.{◌<◌};
 
 use super::answers::number;
@@ -11,17 +6,55 @@ use super::building::some_node;
 use super::words::{draw, draw_word, next};
 use language::{Id, Node, Op};
 
-pub const SETUP: u64 = 7;
-
-pub const REBUILD: u64 = 11;
-
-// Whether a call changes no word of the graph, whatever it answers: all but setup, the two adds, union and rebuild.
-pub fn keeps_words(which: u64) -> bool {
-    which < SETUP || REBUILD < which
+// An open call; `keeps_words` tells those that only read the graph from those that write it.
+#[derive(Clone, Copy, PartialEq, Eq)]
+pub enum Call {
+    Find,
+    Lookup,
+    IdToNode,
+    IsEmpty,
+    Clean,
+    NumberOfClasses,
+    TotalNumberOfNodes,
+    Setup,
+    Add,
+    AddUncanonical,
+    Union,
+    Rebuild,
+    FindBestCost,
+    Classes,
+    ClassesForOp,
+    Nodes,
+    FindBest,
 }
+
+// All of them, in the order in which the program writes them.
+pub const CALLS: [Call; 17] = [
+    Call::Find,
+    Call::Lookup,
+    Call::IdToNode,
+    Call::IsEmpty,
+    Call::Clean,
+    Call::NumberOfClasses,
+    Call::TotalNumberOfNodes,
+    Call::Setup,
+    Call::Add,
+    Call::AddUncanonical,
+    Call::Union,
+    Call::Rebuild,
+    Call::FindBestCost,
+    Call::Classes,
+    Call::ClassesForOp,
+    Call::Nodes,
+    Call::FindBest,
+];
 
 fn id(seed: u64) -> Id {
     Id(draw_word(seed, 40, 10))
+}
+
+fn op(seed: u64) -> Op {
+    Op(draw_word(seed, 44, 5))
 }
 
 // A node that may have more children than there are places in its row.
@@ -51,28 +84,7 @@ pub fn find_in_no_words() -> usize
     ensures { result < 10 }
 {
     let ws = [0u32; 1];
-    find(&ws[..0], 0)
-}
-
-fn find(ws: &[u32], seed: u64) -> usize
-    ensures { result < 10 }
-{
-    number(egraph::find(ws, id(seed)))
-}
-
-fn reading(ws: &[u32], which: u64, seed: u64) -> usize
-    ensures { result < 10 }
-{
-    // A drawn number, not an enum: the enum would have to be made of the number by a match like this one.
-    match which {
-        0 => find(ws, seed),
-        1 => number(egraph::lookup(ws, node(seed))),
-        2 => number(egraph::id_to_node(ws, id(seed))),
-        3 => number(egraph::is_empty(ws)),
-        4 => number(egraph::clean(ws)),
-        5 => number(egraph::number_of_classes(ws)),
-        _ => number(egraph::total_number_of_nodes(ws)),
-    }
+    number(egraph::find(&ws[..0], id(0)))
 }
 
 fn setup(ws: &mut [u32], seed: u64) -> usize
@@ -83,40 +95,59 @@ fn setup(ws: &mut [u32], seed: u64) -> usize
     number(egraph::setup(ws, n, m))
 }
 
-fn writing(ws: &mut [u32], which: u64, seed: u64) -> usize
-    ensures { result < 10 }
-{
-    // A drawn number, not an enum: the enum would have to be made of the number by a match like this one.
-    match which {
-        7 => setup(ws, seed),
-        8 => number(egraph::add(ws, node(seed))),
-        9 => number(egraph::add_uncanonical(ws, node(seed))),
-        10 => number(egraph::union(ws, id(seed), id(next(seed)))),
-        11 => number(egraph::rebuild(ws)),
-        _ => number(extract::find_best_cost(ws, id(seed))),
+impl Call {
+    pub fn name(self) -> &'static str {
+        match self {
+            Call::Find => "find",
+            Call::Lookup => "lookup",
+            Call::IdToNode => "id_to_node",
+            Call::IsEmpty => "is_empty",
+            Call::Clean => "clean",
+            Call::NumberOfClasses => "number_of_classes",
+            Call::TotalNumberOfNodes => "total_number_of_nodes",
+            Call::Setup => "setup",
+            Call::Add => "add",
+            Call::AddUncanonical => "add_uncanonical",
+            Call::Union => "union",
+            Call::Rebuild => "rebuild",
+            Call::FindBestCost => "find_best_cost",
+            Call::Classes => "classes",
+            Call::ClassesForOp => "classes_for_op",
+            Call::Nodes => "nodes",
+            Call::FindBest => "find_best",
+        }
     }
-}
 
-fn listing(ws: &mut [u32], out: &mut [u32], which: u64, seed: u64) -> usize
-    ensures { result < 10 }
-{
-    // A drawn number, not an enum: the enum would have to be made of the number by a match like this one.
-    match which {
-        13 => number(egraph::classes(ws, out)),
-        14 => number(egraph::classes_for_op(ws, Op(draw_word(seed, 44, 5)), out)),
-        15 => number(egraph::nodes(ws, out)),
-        _ => number(extract::find_best(ws, id(seed), out)),
+    // Whether a call changes no word of the graph, whatever it answers.
+    pub fn keeps_words(self) -> bool {
+        !matches!(
+            self,
+            Call::Setup | Call::Add | Call::AddUncanonical | Call::Union | Call::Rebuild
+        )
     }
-}
 
-pub fn call(ws: &mut [u32], out: &mut [u32], which: u64, seed: u64) -> usize
-    ensures { result < 10 }
-{
-    if which < 7 {
-        return reading(ws, which, seed);
+    // What it answers on these words, with arguments that the seed gives; `out` is the slice for a list.
+    pub fn answer(self, ws: &mut [u32], out: &mut [u32], seed: u64) -> usize
+        ensures { result < 10 }
+    {
+        match self {
+            Call::Find => number(egraph::find(ws, id(seed))),
+            Call::Lookup => number(egraph::lookup(ws, node(seed))),
+            Call::IdToNode => number(egraph::id_to_node(ws, id(seed))),
+            Call::IsEmpty => number(egraph::is_empty(ws)),
+            Call::Clean => number(egraph::clean(ws)),
+            Call::NumberOfClasses => number(egraph::number_of_classes(ws)),
+            Call::TotalNumberOfNodes => number(egraph::total_number_of_nodes(ws)),
+            Call::Setup => setup(ws, seed),
+            Call::Add => number(egraph::add(ws, node(seed))),
+            Call::AddUncanonical => number(egraph::add_uncanonical(ws, node(seed))),
+            Call::Union => number(egraph::union(ws, id(seed), id(next(seed)))),
+            Call::Rebuild => number(egraph::rebuild(ws)),
+            Call::FindBestCost => number(extract::find_best_cost(ws, id(seed))),
+            Call::Classes => number(egraph::classes(ws, out)),
+            Call::ClassesForOp => number(egraph::classes_for_op(ws, op(seed), out)),
+            Call::Nodes => number(egraph::nodes(ws, out)),
+            Call::FindBest => number(extract::find_best(ws, id(seed), out)),
+        }
     }
-    if which < 13 {
-        return writing(ws, which, seed);
-    }
-    listing(ws, out, which, seed)
 }

@@ -23,50 +23,15 @@ mod text;
 mod trials;
 mod words;
 
+use calls::CALLS;
 use std::io;
 
 const TURNS: u64 = 2000;
 
-fn report(rt: &impl Print, which: u64, name: &[u8]) -> io::Result<()> {
-    let mut t = [0u64; tally::TALLY];
-    trials::trials(which, TURNS, &mut t);
-    text::report(rt, name, &t)
-}
-
-fn on_nodes(rt: &impl Print) -> io::Result<()> {
-    report(rt, 0, b"find")?;
-    report(rt, 1, b"lookup")?;
-    report(rt, 2, b"id_to_node")
-}
-
-fn on_counts(rt: &impl Print) -> io::Result<()> {
-    report(rt, 3, b"is_empty")?;
-    report(rt, 4, b"clean")?;
-    report(rt, 5, b"number_of_classes")?;
-    report(rt, 6, b"total_number_of_nodes")
-}
-
-fn on_changes(rt: &impl Print) -> io::Result<()> {
-    report(rt, 7, b"setup")?;
-    report(rt, 8, b"add")?;
-    report(rt, 9, b"add_uncanonical")?;
-    report(rt, 10, b"union")?;
-    report(rt, 11, b"rebuild")
-}
-
-// The calls that are lent a slice for what they list.
-fn on_lists(rt: &impl Print) -> io::Result<()> {
-    report(rt, 13, b"classes")?;
-    report(rt, 14, b"classes_for_op")?;
-    report(rt, 15, b"nodes")?;
-    report(rt, 16, b"find_best")
-}
-
 fn main(rt: HostRuntime) -> io::Result<()> {
     text::no_words(&rt, calls::find_in_no_words())?;
-    on_nodes(&rt)?;
-    on_counts(&rt)?;
-    on_changes(&rt)?;
-    report(&rt, 12, b"find_best_cost")?;
-    on_lists(&rt)
+    for call in CALLS {
+        text::report(&rt, call.name(), &trials::trials(call, TURNS))?;
+    }
+    Ok(())
 }

@@ -1,24 +1,21 @@
-// What breaks the words of a good graph.
-//
-//     kind   what
-//     0      nothing
-//     1      one to eight words of the graph anew
-//     2      nothing: the slice that is lent is cut short
-//     3      one of the head's seven words anew
-//     4      a head in range, and every other word of the graph anew
-//
-// A word anew is mostly below 16, so that most links stay inside.
+// The ways to break the words of a good graph. A word anew is mostly below 16, so that most links stay inside.
 ghost use Rattle.std.specs.Prelude.{◌<◌};
 
 use super::words::{FROM, NEED, SIZE, draw, draw_word, next};
 
-pub const KINDS: u64 = 5;
-
-pub const KIND_SHORT: u64 = 2;
-
-// Whether the words stay those of a good graph.
-pub fn keeps(kind: u64) -> bool {
-    kind == 0 || kind == KIND_SHORT
+// What is done on a turn.
+#[derive(Clone, Copy, PartialEq, Eq)]
+pub enum Spoil {
+    // Nothing.
+    Nothing,
+    // One to eight words of the graph anew.
+    SomeWords,
+    // Nothing, but the slice that is lent is cut short.
+    CutShort,
+    // One of the head's seven words anew.
+    HeadWord,
+    // A head in range, and every other word of the graph anew.
+    AllWords,
 }
 
 // Mostly a small word, sometimes any.
@@ -65,15 +62,32 @@ fn all_words(ws: &mut [u32; SIZE], seed: u64) {
     }
 }
 
-pub fn spoil(ws: &mut [u32; SIZE], kind: u64, seed: u64) {
-    // A drawn number, not an enum: the enum would have to be made of the number by a match like this one.
-    match kind {
-        1 => some_words(ws, seed, 1 + draw(seed, 30, 8)),
-        3 => head_word(ws, seed),
-        4 => {
-            some_head(ws, seed);
-            all_words(ws, seed);
+impl Spoil {
+    // The turns take one after another.
+    pub fn of_turn(turn: u64) -> Spoil {
+        match turn % 5 {
+            0 => Spoil::Nothing,
+            1 => Spoil::SomeWords,
+            2 => Spoil::CutShort,
+            3 => Spoil::HeadWord,
+            _ => Spoil::AllWords,
         }
-        _ => {}
+    }
+
+    // Whether the words stay those of a good graph.
+    pub fn keeps(self) -> bool {
+        matches!(self, Spoil::Nothing | Spoil::CutShort)
+    }
+
+    pub fn apply(self, ws: &mut [u32; SIZE], seed: u64) {
+        match self {
+            Spoil::Nothing | Spoil::CutShort => {}
+            Spoil::SomeWords => some_words(ws, seed, 1 + draw(seed, 30, 8)),
+            Spoil::HeadWord => head_word(ws, seed),
+            Spoil::AllWords => {
+                some_head(ws, seed);
+                all_words(ws, seed);
+            }
+        }
     }
 }

@@ -1,4 +1,5 @@
-// The words that a trial is made on: an array with a part in its middle that is lent, and guard words before and behind it. The slice lent for a list has another such array.
+// The words that a trial is made on: an array with a part in its middle that is lent, and guard words before and behind it. The slice lent for a list has
+// another such array.
 //
 //     word                   means
 //     0 .. FROM              guards, never lent

@@ -1,5 +1,5 @@
 // Nodes for the trials.
-ghost use Rattle.std.specs.Prelude.{◌≡◌, ◌≤◌, length};
+ghost use Rattle.std.specs.Prelude.{◌≡◌, ◌≤◌};
 ghost use Rattle.language.specs.Term.{places};
 
 use super::words::{draw_word, next};
@@ -15,18 +15,6 @@ pub fn some_node(seed: u64, count: usize) -> Node
     for _ in 0..count {
         x = next(x);
         node = node.with(Id(draw_word(x, 32, 8)));
-    }
-    node
-}
-
-// A node with these children.
-pub fn node(op: u32, payload: u32, kids: &[u32]) -> Node
-    requires { length kids.now ≤ places }
-    ensures { result.count ≡ length kids.now }
-{
-    let mut node = Node::leaf(Op(op), payload);
-    for kid in kids {
-        node = node.with(Id(*kid));
     }
     node
 }

@@ -1,6 +1,7 @@
 // What is counted over the trials of a part.
 use super::trials::Plan;
 use super::words::Words;
+use drawing::changed;
 
 // How many calls there were; how many words outside what was lent they changed; how many of those that must change no word changed one.
 #[derive(Clone, Copy, Default)]
@@ -8,11 +9,6 @@ pub struct Tally {
     pub calls: u64,
     pub outside: u64,
     pub lapses: u64,
-}
-
-// How many of the words differ.
-fn changed(old: &[u32], new: &[u32]) -> u64 {
-    old.iter().zip(new).filter(|(a, b)| a != b).count() as u64
 }
 
 impl Tally {

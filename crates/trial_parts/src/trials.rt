@@ -21,7 +21,8 @@ pub struct Plan {
     ghost small: { (1 ≤ bound) × (bound ≤ 100) },
 }
 
-// A part, with the calls that try it.
+// A part, with the calls that try it. `which` and `seed` stay two numbers: a call takes them apart at once, to pick what is called and to draw what it is
+// given.
 pub trait Part {
     fn plan(&self) -> Plan;
 

@@ -1,9 +1,10 @@
 // Linked cells: 8 lists of 40 cells.
-ghost use Rattle.std.specs.Prelude.{◌<◌};
+ghost use Rattle.std.specs.Prelude.{◌≡◌, ◌<◌};
 
 use super::trials::{Part, Plan};
 use super::words::{FROM, TO, Words};
 use super::{text, words};
+use cells::Pool;
 use std::io;
 
 const LISTS: usize = 8;
@@ -36,15 +37,26 @@ fn join_next(ws: &mut Words, stay: usize) -> bool
     cells::join(&mut ws[FROM..TO], LISTS, CELLS, stay, stay + 1).is_err()
 }
 
+// The lists, to be read.
+fn pool(ws: &Words) -> Pool<'_>
+    ensures { result.lists ≡ 8 }
+{
+    Pool {
+        ws: &ws[FROM..TO],
+        lists: LISTS,
+        cells: CELLS,
+    }
+}
+
 // How many cells a list has, and which, from the last on.
 fn show(rt: &impl Print, ws: &Words, list: usize) -> io::Result<()>
     requires { list < 8 }
 {
-    let cells = &ws[FROM..TO];
-    let n = cells::len(cells, LISTS, list);
+    let pool = pool(ws);
+    let n = pool.len(list);
     print!(rt; " {n}")?;
     for k in 0..n {
-        text::answer(rt, cells::nth(cells, LISTS, CELLS, list, k))?;
+        text::answer(rt, pool.nth(list, k))?;
     }
     Ok(())
 }
@@ -71,17 +83,12 @@ impl Part for Cells {
     }
 
     fn call(&self, ws: &mut Words, which: u64, seed: u64) -> bool {
-        // A drawn number, not an enum: the enum would have to be made of the number by a match like this one.
+        // Not an enum: `which` only counts the calls of a turn, nothing else reads it, and the names of an enum would be written once here and once
+        // in the list that is gone through.
         match which {
             0 => {
                 let list = words::draw(seed, 6, LISTS);
-                let _ = cells::nth(
-                    &ws[FROM..TO],
-                    LISTS,
-                    CELLS,
-                    list,
-                    words::draw(seed, 7, CELLS + 5),
-                );
+                let _ = pool(ws).nth(list, words::draw(seed, 7, CELLS + 5));
                 false
             }
             1 => push(ws, words::draw(seed, 1, LISTS), words::draw(seed, 2, CELLS)),

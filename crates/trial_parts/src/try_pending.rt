@@ -61,7 +61,8 @@ impl Part for Pending {
 
     // A stretch of no place changes no word.
     fn call(&self, ws: &mut Words, which: u64, seed: u64) -> bool {
-        // A drawn number, not an enum: the enum would have to be made of the number by a match like this one.
+        // Not an enum: `which` only counts the calls of a turn, nothing else reads it, and the names of an enum would be written once here and once
+        // in the list that is gone through.
         match which {
             0 => {
                 top(ws, 1 + words::draw(seed, 1, ENTRIES));

@@ -7,6 +7,7 @@ use super::words::{FROM, TO, Words};
 use super::{nodes, text, words};
 use broken::Broken;
 use language::{Id, Node};
+use rows::Nodes;
 use std::io;
 
 const IDS: usize = 8;
@@ -23,16 +24,27 @@ fn store(ws: &mut Words, id: Id, place: usize, node: Node, key: Node)
     rows::store(&mut ws[FROM..TO], IDS, PLACES, id, place, node, key);
 }
 
+// The rows, to be read.
+fn stored(ws: &Words) -> Nodes<'_>
+    ensures { result.n ≡ 8 }
+{
+    Nodes {
+        ws: &ws[FROM..TO],
+        n: IDS,
+        m: PLACES,
+    }
+}
+
 fn given(ws: &Words, id: Id) -> Result<Node, Broken>
     requires { id.0 < 8 }
 {
-    rows::given(&ws[FROM..TO], IDS, PLACES, id)
+    stored(ws).given(id)
 }
 
 fn key(ws: &Words, id: Id) -> Result<Node, Broken>
     requires { id.0 < 8 }
 {
-    rows::key(&ws[FROM..TO], IDS, PLACES, id)
+    stored(ws).key(id)
 }
 
 // Whether the rows refused.
@@ -75,13 +87,14 @@ impl Part for Rows {
     // A node with two children for each id.
     fn good(&self, ws: &mut Words) {
         for i in 0..8 {
-            let node = nodes::node(i % 3, i / 2, &[i, 7 - i]);
+            let node = spelling::node_of(i % 3, i / 2, &[i, 7 - i]);
             store(ws, Id(i), 2 * i as usize, node, node);
         }
     }
 
     fn call(&self, ws: &mut Words, which: u64, seed: u64) -> bool {
-        // A drawn number, not an enum: the enum would have to be made of the number by a match like this one.
+        // Not an enum: `which` only counts the calls of a turn, nothing else reads it, and the names of an enum would be written once here and once
+        // in the list that is gone through.
         match which {
             0 => {
                 let _ = given(ws, Id(words::draw_word(seed, 1, IDS)));
@@ -104,10 +117,10 @@ impl Part for Rows {
 
     // The node of 3 is 11 21 with children 5 6, and its key has 5 5. Another key has 4 4.
     fn answers(&self, rt: &impl Print, ws: &mut Words) -> io::Result<()> {
-        let node = nodes::node(11, 21, &[5, 6]);
-        store(ws, Id(3), 14, node, nodes::node(11, 21, &[5, 5]));
+        let node = spelling::node_of(11, 21, &[5, 6]);
+        store(ws, Id(3), 14, node, spelling::node_of(11, 21, &[5, 5]));
         show_both(rt, ws, Id(3))?;
-        set_key(ws, Id(3), nodes::node(11, 21, &[4, 4]));
+        set_key(ws, Id(3), spelling::node_of(11, 21, &[4, 4]));
         show_both(rt, ws, Id(3))
     }
 }

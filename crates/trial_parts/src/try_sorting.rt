@@ -3,7 +3,7 @@ ghost use Rattle.std.specs.Prelude.{◌<◌, ◌≤◌};
 
 use super::trials::{Part, Plan};
 use super::words::{FROM, TO, Words};
-use super::{nodes, text, words};
+use super::{text, words};
 use broken::Broken;
 use language::{Id, Node};
 use std::io;
@@ -53,7 +53,7 @@ impl Part for Sorting {
     // A node with one child for each id, and the ids from 7 down to 0.
     fn good(&self, ws: &mut Words) {
         for i in 0..8 {
-            store_key(ws, i, nodes::node(i % 3, 0, &[i / 2]));
+            store_key(ws, i, spelling::node_of(i % 3, 0, &[i / 2]));
             ws[WORK + i as usize] = 7 - i;
         }
     }
@@ -64,9 +64,9 @@ impl Part for Sorting {
 
     // The keys of 1, 2 and 0 ascend. Of four ids to sort, one of them twice, the sort leaves three: 1 2 0. With an 8 among them, which is no id, it refuses.
     fn answers(&self, rt: &impl Print, ws: &mut Words) -> io::Result<()> {
-        store_key(ws, 0, nodes::node(3, 0, &[]));
-        store_key(ws, 1, nodes::node(1, 5, &[]));
-        store_key(ws, 2, nodes::node(1, 5, &[0]));
+        store_key(ws, 0, spelling::node_of(3, 0, &[]));
+        store_key(ws, 1, spelling::node_of(1, 5, &[]));
+        store_key(ws, 2, spelling::node_of(1, 5, &[0]));
         ws[WORK..WORK + 4].copy_from_slice(&[0, 2, 1, 0]);
         text::answer(rt, sort(ws, 4))?;
         for id in &ws[WORK..WORK + 3] {

@@ -7,6 +7,7 @@ use super::words::{FROM, TO, Words};
 use super::{nodes, words};
 use broken::Broken;
 use language::{Id, Node};
+use rows::Nodes;
 use std::io;
 
 const IDS: usize = 4;
@@ -38,7 +39,12 @@ fn leave(ws: &mut Words, bucket: usize, id: u32) -> bool
 fn ask(ws: &Words, node: Node) -> Result<Option<Id>, Broken>
     requires { node.count ≤ places }
 {
-    table::ask(&ws[FROM..END], &ws[END..TO], IDS, PLACES, node)
+    let stored = Nodes {
+        ws: &ws[END..TO],
+        n: IDS,
+        m: PLACES,
+    };
+    table::ask(&ws[FROM..END], &stored, node)
 }
 
 // An id with its key, which has two children at most, in the stored nodes and in the table.
@@ -68,9 +74,9 @@ fn show(rt: &impl Print, ws: &Words, node: Node) -> io::Result<()>
 }
 
 fn show_all(rt: &impl Print, ws: &Words) -> io::Result<()> {
-    show(rt, ws, nodes::node(1, 9, &[]))?;
-    show(rt, ws, nodes::node(2, 0, &[6]))?;
-    show(rt, ws, nodes::node(2, 0, &[5]))
+    show(rt, ws, spelling::node_of(1, 9, &[]))?;
+    show(rt, ws, spelling::node_of(2, 0, &[6]))?;
+    show(rt, ws, spelling::node_of(2, 0, &[5]))
 }
 
 impl Part for Table {
@@ -90,12 +96,13 @@ impl Part for Table {
     fn good(&self, ws: &mut Words) {
         cells::clear(&mut ws[FROM..END], IDS);
         for i in 0..4 {
-            put_key(ws, i, nodes::node(i % 2, 0, &[i, 3]));
+            put_key(ws, i, spelling::node_of(i % 2, 0, &[i, 3]));
         }
     }
 
     fn call(&self, ws: &mut Words, which: u64, seed: u64) -> bool {
-        // A drawn number, not an enum: the enum would have to be made of the number by a match like this one.
+        // Not an enum: `which` only counts the calls of a turn, nothing else reads it, and the names of an enum would be written once here and once
+        // in the list that is gone through.
         match which {
             0 => {
                 let _ = ask(ws, nodes::some_node(seed, words::draw(seed, 1, 3)));
@@ -117,8 +124,8 @@ impl Part for Table {
     // 3 has the leaf 1 9 as its key and 1 the node 2 0 with the child 6; no id has the one with the child 5. Then 1 leaves.
     fn answers(&self, rt: &impl Print, ws: &mut Words) -> io::Result<()> {
         cells::clear(&mut ws[FROM..END], IDS);
-        let key = nodes::node(2, 0, &[6]);
-        put_key(ws, 3, nodes::node(1, 9, &[]));
+        let key = spelling::node_of(2, 0, &[6]);
+        put_key(ws, 3, spelling::node_of(1, 9, &[]));
         put_key(ws, 1, key);
         show_all(rt, ws)?;
         leave(ws, table::bucket(key, IDS), 1);

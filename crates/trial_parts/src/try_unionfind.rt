@@ -54,7 +54,8 @@ impl Part for Unionfind {
     }
 
     fn call(&self, ws: &mut Words, which: u64, seed: u64) -> bool {
-        // A drawn number, not an enum: the enum would have to be made of the number by a match like this one.
+        // Not an enum: `which` only counts the calls of a turn, nothing else reads it, and the names of an enum would be written once here and once
+        // in the list that is gone through.
         match which {
             0 => find(ws, seed),
             1 => find_mut(ws, seed),

@@ -76,6 +76,7 @@ pub fn spoil(ws: &mut Words, turn: u64, bound: u64)
     requires { (1 ≤ bound) × (bound ≤ 100) }
 {
     let seed = next(turn);
+    // Not an enum: the turn goes round the five ways, and they are named by what they call.
     match turn % 5 {
         0 => fill_small(ws, seed, bound / 4 + 1),
         1 => fill_small(ws, seed, bound),

@@ -1,15 +1,15 @@
 -- One class taken up by another: what the four parts promise, taken together, is the machine's `merge`. And on words that hold a graph there is room for it.
 -- Assumes nothing.
-use Rattle.std.specs.Prelude.{Result, false, true, List, ◌≢◌, ◌≡◌, refl, ◌*◌, ◌+◌, ◌-◌, ◌<◌, ◌≤◌, ℕ}
+use Rattle.std.specs.Prelude.{Result, List, ◌≢◌, ◌≡◌, refl, ◌*◌, ◌+◌, ◌-◌, ◌<◌, ◌≤◌, ℕ}
 use Rattle.broken.specs.declared.Broken.{Broken}
 use Rattle.std.proofs.Common.{arith}
+use Rattle.std.proofs.lemmas.Bool.{false≢true}
 use Rattle.lists.specs.Reads.{at}
 use Rattle.steps.specs.Graph.{Graph, root}
 use Rattle.steps.specs.Machine.{merge}
 use Rattle.cells.specs.Changes.{Joined}
 use Rattle.holds.specs.NodesLaws.{nodes_merge}
 use Rattle.holds.specs.Holds.{HoldsAt, Range}
-use Rattle.holds.specs.HoldsLaws.{false≢true}
 use Rattle.holds.specs.MembersLaws.{members_merge}
 use Rattle.holds.specs.ParentsLaws.{parents_merge}
 use Rattle.layout.specs.Cut.{forest, members, pending, uses}

@@ -2,10 +2,9 @@
 -- Assumes nothing.
 use Rattle.std.specs.Prelude.{Ok, Result, List, ◌≢◌, ◌≡◌, refl, ◌*◌, ◌+◌, ◌<◌, ◌≤◌, ℕ, length}
 use Rattle.broken.specs.declared.Broken.{Broken}
-use Rattle.broken.specs.Words.{broken}
+use Rattle.broken.specs.Words.{apart, broken, err≢ok}
 use Rattle.std.proofs.Common.{subst, sym, arith}
 use Rattle.lists.specs.Reads.{at}
-use Rattle.lists.specs.Tests.{zero_one}
 use Rattle.steps.specs.Machine.{merge}
 use Rattle.cells.specs.Changes.{Joined}
 use Rattle.cells.specs.Reading.{Word}
@@ -22,12 +21,6 @@ use Rattle.uniting.specs.Merge.{holds_merge, merge_room}
 use Rattle.uniting.specs.Near.{NearIds}
 use Rattle.uniting.specs.Says.{MergeSays, merged_numbers}
 
-never : {A : Type 0} (k : Head) → broken ≡ Ok k → A
-never k e = zero_one cc
-
-apart : {A : Type 0} (r : Result Unit Broken) → r ≡ broken → r ≡ Ok tt → A
-apart r e f = zero_one cc
-
 merged_near : (len : ℕ) (h : Head) (d : ℕ) → HeadOk len h → h.depth < 2 * h.n → d ≤ h.depth + 1 → NearIds len h (merged_numbers h d)
 merged_near len h d ok room high = record { near = record { ok = omega arith; n_is = refl; m_is = refl }; ids_is = refl; places_is = refl }
 
@@ -36,14 +29,14 @@ module _ (h : Head) (stay lose : ℕ) (ws : List ℕ) (ok : HeadOk (length ws) h
   pub merge_full : 2 * h.n ≤ h.depth → MergeSays h stay lose ws broken ws
   merge_full e = record {
     inside = inside_same h.n h.m ws;
-    range = λ k. never k;
+    range = λ k f. err≢ok f;
     sound = λ g u H rs rl. absurd (let w = merge_room H stay lose q.0 q.1 q.2 rs rl in omega arith);
   }
 
   pub merge_none : h.classes ≡ 0 → MergeSays h stay lose ws broken ws
   merge_none e = record {
     inside = inside_same h.n h.m ws;
-    range = λ k. never k;
+    range = λ k f. err≢ok f;
     sound = λ g u H rs rl. absurd (let w = merge_room H stay lose q.0 q.1 q.2 rs rl in omega arith);
   }
 
@@ -55,8 +48,8 @@ module _ (h : Head) (stay lose : ℕ) (ws : List ℕ) (ok : HeadOk (length ws) h
     pub merge_uses : r ≡ broken → MergeSays h stay lose ws broken ws1
     merge_uses e = record {
       inside = inside1;
-      range = λ k. never k;
-      sound = λ g u H rs rl. apart r e (J.did.law H.parents.lists H.parents.pool).0;
+      range = λ k f. err≢ok f;
+      sound = λ g u H rs rl. apart e (J.did.law H.parents.lists H.parents.pool).0;
     }
 
     module _ (ws2 ws3 : List ℕ) (last count d : ℕ) (s : Result Unit Broken)
@@ -69,12 +62,12 @@ module _ (h : Head) (stay lose : ℕ) (ws : List ℕ) (ok : HeadOk (length ws) h
       pub merge_members : s ≡ broken → MergeSays h stay lose ws broken ws3
       merge_members e = record {
         inside = inside3;
-        range = λ k. never k;
+        range = λ k f. err≢ok f;
         sound = λ g u H rs rl.
             let a1 = lent_next J refl in
             let a2 = lent_next K a1.is in
             let a3 = lent_next M a2.is in
-            apart s e (a3.did.law H.members.lists H.members.pool).0;
+            apart e (a3.did.law H.members.lists H.members.pool).0;
       }
 
       pub merge_done : (ws4 : List ℕ) → h.depth < 2 * h.n → Word (view h.n h.m ws).uses lose last

@@ -1,5 +1,5 @@
--- Numbers that a step answers, near those that were read: the same limits, ids and places, and all in range. What was shown of parts cut by the one holds of parts
--- cut by the other.
+-- A head that a step leaves, near the one that it found: the same limits, ids and places, and all numbers in range. What was shown of parts cut by the one holds
+-- of parts cut by the other.
 -- Assumes nothing.
 use Rattle.std.specs.Prelude.{List, ◌≡◌, ℕ}
 use Rattle.std.proofs.Common.{◌∙◌, subst}

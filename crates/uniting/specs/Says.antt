@@ -1,6 +1,6 @@
--- What the steps of a union promise: on any words, what they leave alone and which numbers they answer; on words that hold a graph, which graph they leave.
+-- What the steps of a union promise: on any words, what they leave alone and which head they leave; on words that hold a graph, which graph they leave.
 -- Assumes nothing.
-use Rattle.std.specs.Prelude.{Ok, Result, Bool, false, true, List, ◌≢◌, ◌≡◌, ◌-◌, ◌<◌, ℕ, length}
+use Rattle.std.specs.Prelude.{Err, Ok, Result, Bool, false, List, ◌≢◌, ◌≡◌, ◌-◌, ◌<◌, ℕ, length}
 use Rattle.broken.specs.declared.Broken.{Broken}
 use Rattle.steps.specs.Graph.{Graph, root, uses}
 use Rattle.steps.specs.Machine.{merge, union, union_by}
@@ -9,7 +9,6 @@ use Rattle.holds.specs.Inside.{Inside}
 use Rattle.layout.specs.View.{view}
 use Rattle.layout.specs.declared.Head.{Head}
 use Rattle.uniting.specs.Near.{NearIds}
-use Rattle.uniting.specs.declared.United.{United}
 
 -- one class less, unclean, and the depth of pending d
 abbrev pub merged_numbers : Head → ℕ → Head
@@ -30,11 +29,21 @@ pub record JoinSays (h : Head) (a b : ℕ) (ws : List ℕ) (r : Result Head Brok
       → (n : a ≢ b) (s : Dec (length (uses g.parents a) < length (uses g.parents b)))
       → (k : Head) × (r ≡ Ok k) × HoldsAt k u (view h.n h.m ws') (union_by g a b (no n) s).graph
 
-abbrev pub united : Bool → Head → United
-united b k = record { head = k; joined = b }
+-- the head that a union leaves, and whether two classes were joined: of one class already, they were not
+pub record United : Type 0 where
+  pub head : Head
+  pub joined : Bool
+
+abbrev pub answered : Bool → Head → United
+answered b k = record { head = k; joined = b }
 
 abbrev pub told : Bool → Head → Result United Broken
-told b k = Ok (united b k)
+told b k = Ok (answered b k)
+
+-- the answer of a union with the head that it leaves, where it was not refused
+abbrev pub united : Head → Result Bool Broken → Result United Broken
+united k (Ok b) = told b k
+united k (Err e) = Err e
 
 -- any two ids
 pub record UniteSays (h : Head) (i j : ℕ) (ws : List ℕ) (r : Result United Broken) (ws' : List ℕ) : Type 0 where

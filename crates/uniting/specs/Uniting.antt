@@ -2,7 +2,7 @@
 -- Assumes nothing.
 use Rattle.std.specs.Prelude.{Ok, Result, Bool, false, true, List, ◌≢◌, ◌≡◌, refl, ◌<◌, ℕ, length}
 use Rattle.broken.specs.declared.Broken.{Broken}
-use Rattle.broken.specs.Words.{broken}
+use Rattle.broken.specs.Words.{apart, broken, err≢ok}
 use Rattle.std.proofs.Common.{◌∙◌, ap, subst, sym, arith}
 use Rattle.std.proofs.Math.Decide.{dec_lt, ℕ_discrete}
 use Rattle.lists.specs.Tests.{zero_one}
@@ -19,8 +19,7 @@ use Rattle.layout.specs.declared.Head.{Head}
 use Rattle.unionfind.specs.Forest.{root_root}
 use Rattle.unionfind.specs.Promise.{FindsMut}
 use Rattle.uniting.specs.Near.{NearIds}
-use Rattle.uniting.specs.declared.United.{United}
-use Rattle.uniting.specs.Says.{JoinSays, UniteSays, told}
+use Rattle.uniting.specs.Says.{answered, JoinSays, UniteSays, United, told}
 
 -- ---- the machine's union, by its two tests
 
@@ -52,9 +51,6 @@ says_yes g a b n (no s) = refl
 
 -- ---- the ids' roots
 
-never_found : {A : Type 0} (r : Result ℕ Broken) (x : ℕ) → r ≡ broken → r ≡ Ok x → A
-never_found r x e f = zero_one cc
-
 -- a root found, and the graph as it was
 found : (h : Head) (i : ℕ) (ws ws1 : List ℕ) (r : Result ℕ Broken) (g : Graph) (u : ℕ) → Lent forest h.n h.m (λ f f'. FindsMut f h.ids i r f') ws ws1
     → HoldsAt h u (view h.n h.m ws) g → (r ≡ Ok (root g.roots i)) × HoldsAt h u (view h.n h.m ws1) g
@@ -71,9 +67,6 @@ root_own h u v g i H l = root_root H.forest i l
 
 -- ---- the ways out
 
-no_answer : {A : Type 0} (s : United) → broken ≡ Ok s → A
-no_answer s e = zero_one cc
-
 unclean_near : (len : ℕ) (h : Head) → HeadOk len h → NearIds len h (unclean h)
 unclean_near len h ok = record { near = record { ok = omega arith; n_is = refl; m_is = refl }; ids_is = refl; places_is = refl }
 
@@ -81,8 +74,8 @@ module _ (h : Head) (i j : ℕ) (ws ws1 : List ℕ) (r1 : Result ℕ Broken) (R1
   pub unite_lost : r1 ≡ broken → UniteSays h i j ws broken ws1
   unite_lost e = record {
     inside = inside_lent (λ v l. refl) R1;
-    range = λ s. no_answer s;
-    sound = λ g u H. never_found r1 _ e (found h i ws ws1 r1 g u R1 H).0;
+    range = λ s f. err≢ok f;
+    sound = λ g u H. apart e (found h i ws ws1 r1 g u R1 H).0;
   }
 
   module _ (ws2 : List ℕ) (r2 : Result ℕ Broken) (R2 : Lent forest h.n h.m (λ f f'. FindsMut f h.ids j r2 f') ws1 ws2) where
@@ -98,8 +91,8 @@ module _ (h : Head) (i j : ℕ) (ws ws1 : List ℕ) (r1 : Result ℕ Broken) (R1
     pub unite_lost_2 : r2 ≡ broken → UniteSays h i j ws broken ws2
     unite_lost_2 e = record {
       inside = inside2;
-      range = λ s. no_answer s;
-      sound = λ g u H. never_found r2 _ e (second g u H);
+      range = λ s f. err≢ok f;
+      sound = λ g u H. apart e (second g u H);
     }
 
     module _ (x y : ℕ) (ex : r1 ≡ Ok x) (ey : r2 ≡ Ok y) where
@@ -109,21 +102,14 @@ module _ (h : Head) (i j : ℕ) (ws ws1 : List ℕ) (r1 : Result ℕ Broken) (R1
       y_is : (g : Graph) (u : ℕ) → HoldsAt h u (view h.n h.m ws) g → y ≡ root g.roots j
       y_is g u H = let e = second g u H in cc
 
-      -- what the join of two roots asks for
-      pub unite_roots : HeadOk (length ws) h → x ≢ y → HeadOk (length ws2) h × ((x < h.ids) × (y < h.ids) × (x ≢ y))
-      unite_roots ok ne = (subst (λ (n : ℕ). HeadOk n h) (sym inside2.size) ok, (R1.did.inside x ex, R2.did.inside y ey, ne))
-
       -- one class already
-      abbrev pub same : United
-      same = record { head = unclean h; joined = false }
-
-      pub unite_same : HeadOk (length ws) h → x ≡ y → UniteSays h i j ws (Ok same) ws2
+      pub unite_same : HeadOk (length ws) h → x ≡ y → UniteSays h i j ws (Ok (answered false (unclean h))) ws2
       unite_same ok e = record {
         inside = inside2;
-        range = λ s f. let z : same ≡ s = cc in subst (λ (t : United). NearIds (length ws) h t.head) z (unclean_near (length ws) h ok);
+        range = λ s f. let z : answered false (unclean h) ≡ s = cc in subst (λ (t : United). NearIds (length ws) h t.head) z (unclean_near (length ws) h ok);
         sound = λ g u H.
             let s = union_same g i j (sym (x_is g u H) ∙ e ∙ y_is g u H) in
-            subst (λ (t : Joined). (k : Head) × (Ok same ≡ told t.answer k) × HoldsAt k u (view h.n h.m ws2) t.graph) (sym s)
+            subst (λ (t : Joined). (k : Head) × (Ok (answered false (unclean h)) ≡ told t.answer k) × HoldsAt k u (view h.n h.m ws2) t.graph) (sym s)
             (unclean h, refl, holds_unclean (held g u H));
       }
 
@@ -145,18 +131,15 @@ module _ (h : Head) (i j : ℕ) (ws ws1 : List ℕ) (r1 : Result ℕ Broken) (R1
         pub unite_broken : r3 ≡ broken → UniteSays h i j ws broken ws3
         unite_broken e = record {
           inside = inside4;
-          range = λ s. no_answer s;
+          range = λ s f. err≢ok f;
           sound = λ g u H. let b = both g u H in let f = b.1 in zero_one cc;
         }
 
-        abbrev pub joined : Head → United
-        joined k = record { head = k; joined = true }
-
-        pub unite_yes : (k : Head) → r3 ≡ Ok k → UniteSays h i j ws (Ok (joined k)) ws3
+        pub unite_yes : (k : Head) → r3 ≡ Ok k → UniteSays h i j ws (Ok (answered true k)) ws3
         unite_yes k e = record {
           inside = inside4;
           range = λ s f.
-              let z : joined k ≡ s = cc in
+              let z : answered true k ≡ s = cc in
               subst (λ (t : United). NearIds (length ws) h t.head) z (subst (λ (n : ℕ). NearIds n h k) inside2.size (J.range k e));
-          sound = λ g u H. let b = both g u H in let f = b.1 in let z : b.0 ≡ k = cc in (b.0, ap (λ (t : Head). Ok (joined t)) (sym z) ∙ sym b.2, b.3);
+          sound = λ g u H. let b = both g u H in let f = b.1 in let z : b.0 ≡ k = cc in (b.0, ap (λ (t : Head). Ok (answered true t)) (sym z) ∙ sym b.2, b.3);
         }

@@ -1,9 +1,9 @@
 -- The next child by the words: `first_unlisted` promises what `unlisted` of Way says of a node's children, by the place words in the scratch part, and `next_kid` the
--- same of the node that the mark of a class names.
+-- same of the node of the id that the entry of a class has.
 -- Assumes nothing.
-use Rattle.std.specs.Prelude.{None, Ok, Option, Result, Some, List, map, ◌≢◌, ◌≡◌, ◌*◌, ◌+◌, ◌-◌, ◌<◌, ◌≤◌, suc, ℕ, drop, get_or, length}
+use Rattle.std.specs.Prelude.{Bool, false, true, not, None, Ok, Option, Result, Some, is_some, List, map, ◌≡◌, ◌*◌, ◌+◌, ◌<◌, ◌≤◌, suc, ℕ, drop, get_or, length}
 use Rattle.broken.specs.declared.Broken.{Broken}
-use Rattle.broken.specs.Words.{broken}
+use Rattle.broken.specs.Words.{broken, err≢ok}
 use Rattle.std.proofs.Common.{◌∙◌, ap, subst, add-one, arith}
 use Rattle.std.proofs.Math.Path.{refl, sym}
 use Rattle.std.proofs.Math.ListN.{get_or-map, length-map}
@@ -14,15 +14,14 @@ use Rattle.language.specs.Struct.{node_of}
 use Rattle.language.specs.Term.{Term}
 use Rattle.language.specs.declared.Id.{Id}
 use Rattle.language.specs.declared.Node.{Node}
-use Rattle.steps.specs.Graph.{Graph, ids, key_of}
+use Rattle.steps.specs.Graph.{Graph}
 use Rattle.egraph.specs.ClassReads.{Classed, KidsIn, RootNode, classed_kids, classed_node}
-use Rattle.layout.specs.Lent.{Loaded}
 use Rattle.layout.specs.View.{View}
 use Rattle.layout.specs.declared.Head.{Head}
 use Rattle.price.specs.Listing.{Listing, spot}
 use Rattle.price.specs.Pass.{Best, Table, look}
-use Rattle.pricing.specs.Entries.{EntryAt, Names, Prices, entry_as}
-use Rattle.pricing.specs.Laid.{place_word}
+use Rattle.pricing.specs.Entries.{EntryAt, Means, Names, Prices, entry_as}
+use Rattle.pricing.specs.Laid.{PlaceAt, place_word}
 use Rattle.pricing.specs.declared.Entry.{Entry}
 use Rattle.walking.specs.Way.{or_else, unlisted}
 
@@ -30,13 +29,23 @@ use Rattle.walking.specs.Way.{or_else, unlisted}
 abbrev pub Placed : ℕ → List ℕ → Listing → Type 0
 Placed n ss l = (c : ℕ) → c < n → at ss (3 * n + c) ≡ place_word (spot c l)
 
+word_zero : (o : Option ℕ) → place_word o ≡ 0 → o ≡ None
+word_zero None e = refl
+word_zero (Some p) e = absurd (omega arith)
+
+-- what a test for None finds
+pub none_is : (o : Option ℕ) (b : Bool) → is_some o ≡ not b → b ≡ true → o ≡ None
+none_is None b e t = refl
+none_is (Some p) b e t = absurd (cc (e ∙ ap not t))
+
+pub some_is : (o : Option ℕ) (b : Bool) → is_some o ≡ not b → b ≡ false → o ≡ None → ⊥
+some_is None b e t z = cc (e ∙ ap not t)
+some_is (Some p) b e t z = cc z
+
 -- a child, or none
 abbrev pub told : Option ℕ → Result (Option Id) Broken
 told None = Ok None
 told (Some c) = (Ok (Some (record { 0 = c })))
-
-pub broken_is : {A : Type 0} (c : Id) → broken ≡ Ok (Some c) → A
-broken_is c e = zero_one cc
 
 -- ---- a node's children
 
@@ -68,34 +77,34 @@ module _ (n N : ℕ) (ss : List ℕ) (x : Term) where
 
       pub look_stray : N ≤ (get_or ks i (record { 0 = 0 })).0 → FirstKid n N ss x broken
       unfolding kid
-      look_stray off = record { low = λ d q. broken_is d q; law = λ l P K. absurd (omega (arith, many, its, K i (omega (arith, many)))) }
+      look_stray off = record { low = λ d q. err≢ok q; law = λ l P K. absurd (omega (arith, many, its, K i (omega (arith, many)))) }
 
-      module _ (lt : (get_or ks i (record { 0 = 0 })).0 < N) (le : N ≤ n) (w : ℕ) (L : Loaded ss (3 * n + (get_or ks i (record { 0 = 0 })).0) w) where
+      module _ (lt : (get_or ks i (record { 0 = 0 })).0 < N) (le : N ≤ n) (o : Option ℕ) (L : PlaceAt n ss (get_or ks i (record { 0 = 0 })).0 o) where
         split : (l : Listing) → unlisted l (drop i x.kids) ≡ or_else kid.0 (spot kid.0 l) (unlisted l (drop (suc i) x.kids))
         unfolding unlisted
         split l = rw (its, drop-cons x.kids i 0 (omega (arith, many))) refl
 
-        word : (l : Listing) → Placed n ss l → w ≡ place_word (spot kid.0 l)
+        word : (l : Listing) → Placed n ss l → place_word o ≡ place_word (spot kid.0 l)
         unfolding kid
         word l P = L.is ∙ P kid.0 (omega arith)
 
-        pub look_more : w ≢ 0 → Looking n N ss x (i + 1)
+        pub look_more : (o ≡ None → ⊥) → Looking n N ss x (i + 1)
         look_more z = record { law = λ l P K. A.law l P K ∙ split l ∙ go l (spot kid.0 l) (word l P) }
           where
-            go : (l : Listing) (o : Option ℕ) → w ≡ place_word o → or_else kid.0 o (unlisted l (drop (suc i) x.kids)) ≡ unlisted l (drop (i + 1) x.kids)
-            go l None q = absurd (z q)
-            go l (Some p) q = rw (add-one i) refl
+            go : (l : Listing) (q : Option ℕ) → place_word o ≡ place_word q → or_else kid.0 q (unlisted l (drop (suc i) x.kids)) ≡ unlisted l (drop (i + 1) x.kids)
+            go l None e = absurd (z (word_zero o e))
+            go l (Some p) e = rw (add-one i) refl
 
-        pub look_found : w ≡ 0 → FirstKid n N ss x (Ok (Some (get_or ks i (record { 0 = 0 }))))
+        pub look_found : o ≡ None → FirstKid n N ss x (Ok (Some (get_or ks i (record { 0 = 0 }))))
         unfolding kid
         look_found z = record {
           low = λ d q. let s : kid ≡ d = cc in rw (← s) lt;
           law = λ l P K. sym (ap told (A.law l P K ∙ split l ∙ go l (spot kid.0 l) (word l P)));
         }
           where
-            go : (l : Listing) (o : Option ℕ) → w ≡ place_word o → or_else kid.0 o (unlisted l (drop (suc i) x.kids)) ≡ Some kid.0
-            go l None q = refl
-            go l (Some p) q = absurd (omega arith)
+            go : (l : Listing) (q : Option ℕ) → place_word o ≡ place_word q → or_else kid.0 q (unlisted l (drop (suc i) x.kids)) ≡ Some kid.0
+            go l None e = refl
+            go l (Some p) e = absurd (omega (arith, ap place_word z))
 
     pub look_all : (i : ℕ) → i ≡ length ks → Looking n N ss x i → FirstKid n N ss x (Ok None)
     unfolding unlisted
@@ -111,31 +120,28 @@ pub record NextKidOf (h : Head) (c : ℕ) (v : View) (r : Result (Option Id) Bro
   pub law : (g : Graph) (t : Table ℕ) (b : Best ℕ) (l : Listing) → Classed h v g → Prices g h.n v.scratch t
       → look c t ≡ Some b → Placed h.n v.scratch l → r ≡ told (unlisted l b.node.kids)
 
-module _ (h : Head) (c : ℕ) (v : View) (e : Entry) (hc : c < h.n) (E : EntryAt h.n v.scratch c e) where
+module _ (h : Head) (c : ℕ) (v : View) (o : Option Entry) (hc : c < h.n) (E : EntryAt h.n v.scratch c o) where
   -- what the entry says of the chosen node
-  named : (g : Graph) (t : Table ℕ) (b : Best ℕ) → Prices g h.n v.scratch t → look c t ≡ Some b → Names g e.mark e.price b
-  named g t b P q = rw q at (entry_as g h.n v.scratch t c e P hc E)
+  means : (g : Graph) (t : Table ℕ) (b : Best ℕ) → Prices g h.n v.scratch t → look c t ≡ Some b → Means g o (Some b)
+  means g t b P q = rw q at (entry_as g h.n v.scratch t c o P hc E)
 
-  pub next_unmarked : e.mark ≡ 0 → NextKidOf h c v broken
-  next_unmarked z = record { low = λ x q. broken_is x q; law = λ g t b l C P q D. absurd (omega (arith, (named g t b P q).marked)) }
+  pub next_unpriced : o ≡ None → NextKidOf h c v broken
+  next_unpriced z = record { low = λ x q. err≢ok q; law = λ g t b l C P q D. absurd (rw z at (means g t b P q)) }
 
-  -- the node of the id that the mark names is the chosen node
-  module _ (some_mark : e.mark ≢ 0) (f : Result Node Broken) (F : RootNode h v (e.mark - 1) f) where
-    known : (g : Graph) (t : Table ℕ) (b : Best ℕ) → Prices g h.n v.scratch t → look c t ≡ Some b → e.mark - 1 < ids g
-    known g t b P q = let N = named g t b P q in omega (arith, N.marked, N.known)
+  -- the node of its id is the chosen node
+  module _ (e : Entry) (some : o ≡ Some e) (f : Result Node Broken) (F : RootNode h v e.id.0 f) where
+    named : (g : Graph) (t : Table ℕ) (b : Best ℕ) → Prices g h.n v.scratch t → look c t ≡ Some b → Names g e b
+    named g t b P q = rw some at (means g t b P q)
 
     pub next_unread : f ≡ broken → NextKidOf h c v broken
-    next_unread q = record { low = λ x p. broken_is x p; law = λ g t b l C P u D. absurd (F.lost q (classed_node C (e.mark - 1) (known g t b P u)).0) }
+    next_unread q = record { low = λ x p. err≢ok p; law = λ g t b l C P u D. absurd (F.lost q (classed_node C e.id.0 (named g t b P u).known).0) }
 
     module _ (y : Node) (q : f ≡ Ok y) where
       node_is : (g : Graph) (t : Table ℕ) (b : Best ℕ) → Classed h v g → Prices g h.n v.scratch t → look c t ≡ Some b
           → (node_of y ≡ b.node) × KidsIn h.ids b.node
       node_is g t b C P u =
           let N = named g t b P u in
-          let i : e.mark - 1 ≡ N.id = omega (arith, N.marked) in
-          let l = known g t b P u in
-          let w : key_of g (e.mark - 1) ≡ b.node = ap (key_of g) i ∙ N.node_is in
-          ((F.found y q).1.exact ∙ (classed_node C (e.mark - 1) l).1 ∙ w, rw (← w) (classed_kids C (e.mark - 1) l))
+          ((F.found y q).1.exact ∙ (classed_node C e.id.0 N.known).1 ∙ N.node_is, rw (← N.node_is) (classed_kids C e.id.0 N.known))
 
       pub next_done : (r : Result (Option Id) Broken) → FirstKid h.n h.ids v.scratch (node_of y) r → NextKidOf h c v r
       next_done r K = record {

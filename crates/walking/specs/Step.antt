@@ -3,7 +3,7 @@
 -- Assumes nothing.
 use Rattle.std.specs.Prelude.{None, Ok, Option, Result, Some, List, [], ◌∷◌, ◌≢◌, ◌≡◌, refl, ◌*◌, ◌+◌, ◌-◌, ◌<◌, ◌≤◌, suc, ℕ, length, set}
 use Rattle.broken.specs.declared.Broken.{Broken}
-use Rattle.broken.specs.Words.{broken}
+use Rattle.broken.specs.Words.{broken, err≢ok}
 use Rattle.std.proofs.Common.{◌∙◌, ap, subst, sym, arith}
 use Rattle.std.proofs.Math.Decide.{ℕ_discrete}
 use Rattle.lists.specs.Keeps.{length_filter, length_upto, upto}
@@ -22,14 +22,14 @@ use Rattle.layout.specs.Lent.{Lent, Loaded, Stored, lent_map, lent_twice}
 use Rattle.layout.specs.View.{View, view}
 use Rattle.layout.proofs.Sizes.{get_length}
 use Rattle.layout.specs.declared.Head.{Head}
-use Rattle.price.specs.Chosen.{Backed, Ranked}
+use Rattle.price.specs.Chosen.{Backed, Ranked, in_list}
 use Rattle.price.specs.Listing.{Listing, with_places}
 use Rattle.price.specs.Pass.{Table}
 use Rattle.price.specs.Shown.{Fine}
 use Rattle.price.specs.Size.{AstSize}
 use Rattle.walking.specs.Kids.{NextKidOf, told}
 use Rattle.walking.specs.State.{Behind, Stacked, Standing, laid_kept, laid_more, listing_stores, prices_kept, stacked_kept}
-use Rattle.walking.specs.Way.{Top, Way, few_listed, fine_list, in_roots, unlisted, way_list, way_push, way_top}
+use Rattle.walking.specs.Way.{Top, Way, few_listed, fine_list, unlisted, way_list, way_push, way_top}
 use Rattle.walking.specs.declared.Reached.{Reached}
 
 -- ---- a class listed
@@ -158,9 +158,6 @@ module _ (h : Head) (g : Graph) (t : Table ℕ) (B : Backed AstSize (class_nodes
 
 -- ---- the ways out
 
-to_broken : {A : Type 0} (a : Reached) → broken ≡ Ok a → A
-to_broken a e = zero_one cc
-
 module _ (h : Head) (k d : ℕ) (ws : List ℕ) (ok : HeadOk (length ws) h) (in_range : (k ≤ h.n) × (0 < d) × (d ≤ h.n)) (c : ℕ)
     (L : Loaded (view h.n h.m ws).scratch (5 * h.n + (d - 1)) c) where
   -- the words hold no walk of g
@@ -169,7 +166,7 @@ module _ (h : Head) (k d : ℕ) (ws : List ℕ) (ok : HeadOk (length ws) h) (in_
 
   -- a refusal, where no clean graph's words come to it
   refused : ((g : Graph) → Classed h (view h.n h.m ws) g → NoWalk g) → Steps h k d ws broken ws
-  refused never = record { only = lent_same ws (λ i l. refl); onward = λ a e. to_broken a e; law = λ g t B K m C S. absurd (never g C t B K m S) }
+  refused never = record { only = lent_same ws (λ i l. refl); onward = λ a e. err≢ok e; law = λ g t B K m C S. absurd (never g C t B K m S) }
 
   module _ (g : Graph) (C : Classed h (view h.n h.m ws) g) (t : Table ℕ) (B : Backed AstSize (class_nodes g) t) (K : Ranked AstSize (class_nodes g) t) (m : Listing)
       (S : Standing h g t B K m (view h.n h.m ws).scratch k d) where
@@ -178,7 +175,7 @@ module _ (h : Head) (k d : ℕ) (ws : List ℕ) (ok : HeadOk (length ws) h) (in_
 
     top_in : c < h.ids
     top_in =
-        let q = roots_from g c (in_roots AstSize (class_nodes g) (class_roots g) (classed_listed C) t B K c on.top.best on.top.chosen) in
+        let q = roots_from g c (in_list AstSize (class_nodes g) (class_roots g) (classed_listed C) t B K c on.top.best on.top.chosen) in
         omega (arith, q.0, classed_ids C)
 
     next_is : (r : Result (Option Id) Broken) → NextKidOf h c (view h.n h.m ws) r → r ≡ told (unlisted S.now on.top.best.node.kids)

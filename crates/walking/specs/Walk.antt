@@ -3,7 +3,7 @@
 -- Assumes nothing.
 use Rattle.std.specs.Prelude.{Ok, Result, Some, true, List, [], ◌∷◌, ◌≢◌, ◌≡◌, refl, ◌*◌, ◌+◌, ◌<◌, ◌≤◌, ℕ, length}
 use Rattle.broken.specs.declared.Broken.{Broken}
-use Rattle.broken.specs.Words.{broken}
+use Rattle.broken.specs.Words.{broken, err≢ok}
 use Rattle.std.proofs.Common.{◌∙◌, ap, sym}
 use native.Mathlib.Omega.{arith}
 use Rattle.lists.specs.Options.{none≢some}
@@ -91,11 +91,8 @@ module _ (h : Head) (ws : List ℕ) where
     walk_broken e = record {
       only = both;
       few = λ j q. zero_one cc;
-      law = λ g t B K m C S. let s = W.law g t B K m (classed_lent A.only C) (A.law g t B K m C S) in absurd (apart s.0 (sym e ∙ s.1));
+      law = λ g t B K m C S. let s = W.law g t B K m (classed_lent A.only C) (A.law g t B K m C S) in err≢ok (sym e ∙ s.1);
     }
-      where
-        apart : (a : Reached) → broken ≡ Ok a → ⊥
-        apart a q = zero_one cc
 
   -- the stack is empty
   pub walk_done : (k d : ℕ) (ws' : List ℕ) → k ≤ h.n → d ≡ 0 → Walking h k d ws ws' → Walks h ws (Ok k) ws'

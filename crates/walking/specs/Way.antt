@@ -11,7 +11,7 @@ use native.Mathlib.Omega.{arith}
 use Rattle.lists.specs.Members.{Mem, here, minus, minus_has, minus_lt, there}
 use Rattle.lists.specs.Options.{none≢some, some_inj}
 use Rattle.language.specs.Term.{Term}
-use Rattle.price.specs.Chosen.{Backed, Deep, Ranked, SoonerIn, sooner_in_self, sooner_in_trans}
+use Rattle.price.specs.Chosen.{Backed, Deep, Ranked, SoonerIn, in_list, sooner_in_self, sooner_in_trans}
 use Rattle.price.specs.Listing.{Listing, Once, each, enter, spot, visit, with_places}
 use Rattle.price.specs.Pass.{Best, Table, look}
 use Rattle.price.specs.Rule.{Rule}
@@ -187,9 +187,5 @@ once_few (e ∷ l) W o h =
     apart c p s q = none≢some (sym o.0 ∙ (ap (λ (y : ℕ). spot y l) (sym q) ∙ s))
 
 module _ {P : Type 0} (R : Rule P) (nodes : ℕ → List Term) (rs : List ℕ) (listed : (r : ℕ) (x : Term) → Mem x (nodes r) → Mem r rs) (t : Table P) (B : Backed R nodes t) (K : Ranked R nodes t) where
-  -- what has a price is a class
-  pub in_roots : (c : ℕ) (b : Best P) → look c t ≡ Some b → Mem c rs
-  in_roots c b e = listed c b.node (B c b e).0
-
   pub few_listed : (l : Listing) → Fine R nodes t B K l → length l ≤ length rs
-  few_listed l F = once_few l rs F.once (λ c p h. let s = F.shown c p h in in_roots c s.1 s.2)
+  few_listed l F = once_few l rs F.once (λ c p h. let s = F.shown c p h in in_list R nodes rs listed t B K c s.1 s.2)

@@ -1,5 +1,5 @@
 // The listing of a cheapest form (document 01, "The price of a form"), made in the scratch part of the words from the prices that `pricing` has left there: children
-// first, leftmost first, each class once, the asked class last. The words are a clean graph's, with the head h read before; only words of the scratch part are written:
+// first, leftmost first, each class once, the asked class last. The words are a clean graph's; only words of the scratch part are written, and the head stays:
 //
 //   words of scratch   what
 //   0 to 3n - 1        prices and marks (pricing), read and not written
@@ -15,16 +15,16 @@ ghost use Rattle.std.specs.Prelude.{◌+◌, ◌<◌, ◌≤◌, length};
 ghost use Rattle.language.specs.Term.{places};
 ghost use Rattle.language.specs.Struct.{node_of};
 ghost use Rattle.layout.specs.Cut.{scratch};
-ghost use Rattle.layout.specs.Head.{HeadOk};
+ghost use Rattle.layout.specs.Did.{Did};
 ghost use Rattle.layout.specs.Lent.{Lent};
-ghost use Rattle.layout.specs.View.{view};
+ghost use Rattle.layout.specs.Seen.{seen};
 ghost use Rattle.walking.specs.Kids.{FirstKid, NextKidOf};
 ghost use Rattle.walking.specs.Step.{ListsAt, Steps};
 ghost use Rattle.walking.specs.Walk.{ListsForm, Walks};
 
 use broken::Broken;
 use language::{Id, Node};
-use layout::Head;
+use layout::{Graph, GraphMut, Head};
 
 // How far the walk has come: how many classes are listed, and how many stand on the stack.
 #[derive(Clone, Copy)]
@@ -36,18 +36,15 @@ pub struct Reached {
 // ---- the next child
 
 // The first child of a node that is not listed.
-fn first_unlisted(ws: &[u32], h: Head, node: Node) -> Result<Option<Id>, Broken>
-    requires head_ok { HeadOk (length ws.now) h }
-    requires count_le_places { node.count ≤ places }
-    ensures { FirstKid h.n h.ids (view h.n h.m ws.now).scratch (node_of node) result }
+fn first_unlisted(g: &Graph<'_>, node: Node) -> Result<Option<Id>, Broken>
+    requires { node.count ≤ places }
+    ensures { FirstKid g.now.h.n g.now.h.ids (seen g.now).scratch (node_of node) result }
 {
     for kid in node.children() {
-        let c = kid.0 as usize;
-        if h.ids <= c {
+        if g.h.ids <= kid.0 as usize {
             return Err(Broken);
         }
-        let place = layout::scratch(ws, h, 3 * h.n + c);
-        if place == 0 {
+        if pricing::place_of(g, *kid).is_none() {
             return Ok(Some(*kid));
         }
     }
@@ -55,52 +52,49 @@ fn first_unlisted(ws: &[u32], h: Head, node: Node) -> Result<Option<Id>, Broken>
 }
 
 // The first child of class c's chosen node that is not listed.
-fn next_kid(ws: &[u32], h: Head, c: Id) -> Result<Option<Id>, Broken>
-    requires head_ok { HeadOk (length ws.now) h }
-    requires c_lt_n { c.0 < h.n }
-    ensures { NextKidOf h c.0 (view h.n h.m ws.now) result }
+fn next_kid(g: &Graph<'_>, c: Id) -> Result<Option<Id>, Broken>
+    requires { c.0 < g.now.h.n }
+    ensures { NextKidOf g.now.h c.0 (seen g.now) result }
 {
-    let e = pricing::get_entry(ws, h, c);
-    if e.mark == 0 {
+    let Some(e) = pricing::get_entry(g, c) else {
         return Err(Broken);
-    }
-    let node = egraph::root_node(ws, h, Id((e.mark - 1) as u32))?;
-    first_unlisted(ws, h, node)
+    };
+    let node = egraph::root_node(g, e.id)?;
+    first_unlisted(g, node)
 }
 
 // ---- the steps
 
 // Class c is listed at place k.
-fn list_class(ws: &mut [u32], h: Head, k: usize, class: Id)
-    requires head_ok { HeadOk (length ws.old) h }
-    requires k_lt_n { (k < h.n) × (class.0 < h.n) }
-    ensures { Lent scratch h.n h.m (ListsAt h.n k class.0) ws.old ws.new }
+fn list_class(g: &mut GraphMut<'_>, k: usize, class: Id)
+    requires { (k < g.old.h.n) × (class.0 < g.old.h.n) }
+    ensures { Did (Lent scratch g.old.h.n g.old.h.m (ListsAt g.old.h.n k class.0)) g.old g.new }
 {
-    let n = h.n;
+    let n = g.h.n;
     let c = class.0 as usize;
-    layout::set_scratch(ws, h, 4 * n + k, c);
-    layout::set_scratch(ws, h, 3 * n + c, k + 1);
+    layout::set_scratch(g, 4 * n + k, c);
+    layout::set_scratch(g, 3 * n + c, k + 1);
 }
 
 // One step: the next child of the top of the stack goes onto it, or the top is listed.
-fn step(ws: &mut [u32], h: Head, from: Reached) -> Result<Reached, Broken>
-    requires head_ok { HeadOk (length ws.old) h }
-    requires listed_le_n { (from.listed ≤ h.n) × (0 < from.depth) × (from.depth ≤ h.n) }
-    ensures { Steps h from.listed from.depth ws.old result ws.new }
+fn step(g: &mut GraphMut<'_>, from: Reached) -> Result<Reached, Broken>
+    requires { (from.listed ≤ g.old.h.n) × (0 < from.depth) × (from.depth ≤ g.old.h.n) }
+    ensures { Did (λ ws ws'. Steps g.old.h from.listed from.depth ws result ws') g.old g.new }
 {
-    let n = h.n;
+    let Head { n, ids, .. } = g.h;
     let Reached { listed, depth } = from;
-    let c = layout::scratch(ws, h, 5 * n + (depth - 1));
-    if h.ids <= c {
+    let seen = g.view();
+    let c = layout::scratch(&seen, 5 * n + (depth - 1));
+    if ids <= c {
         return Err(Broken);
     }
     let top = Id(c as u32);
-    match next_kid(ws, h, top)? {
+    match next_kid(&seen, top)? {
         Some(kid) => {
             if depth == n {
                 return Err(Broken);
             }
-            layout::set_scratch(ws, h, 5 * n + depth, kid.0 as usize);
+            layout::set_scratch(g, 5 * n + depth, kid.0 as usize);
             Ok(Reached {
                 depth: depth + 1,
                 ..from
@@ -110,7 +104,7 @@ fn step(ws: &mut [u32], h: Head, from: Reached) -> Result<Reached, Broken>
             if listed == n {
                 return Err(Broken);
             }
-            list_class(ws, h, listed, top);
+            list_class(g, listed, top);
             Ok(Reached {
                 listed: listed + 1,
                 depth: depth - 1,
@@ -120,9 +114,8 @@ fn step(ws: &mut [u32], h: Head, from: Reached) -> Result<Reached, Broken>
 }
 
 // Steps until the stack is empty, from one class on it and none listed. Each step lists a class or goes one deeper, so that any words end within 3n steps.
-fn finish(ws: &mut [u32], h: Head) -> Result<usize, Broken>
-    requires { HeadOk (length ws.old) h }
-    ensures { Walks h ws.old result ws.new }
+fn finish(g: &mut GraphMut<'_>) -> Result<usize, Broken>
+    ensures { Did (λ ws ws'. Walks g.old.h ws result ws') g.old g.new }
 {
     let mut at = Reached {
         listed: 0,
@@ -130,18 +123,17 @@ fn finish(ws: &mut [u32], h: Head) -> Result<usize, Broken>
     };
     // Not a `for`: how many steps there are depends on the prices, and each is refused where it meets broken words.
     while 0 < at.depth {
-        at = step(ws, h, at)?;
+        at = step(g, at)?;
     }
     Ok(at.listed)
 }
 
 // The listing of the cheapest form of class r, where no class is listed yet.
-pub fn list_form(ws: &mut [u32], h: Head, r: Id) -> Result<usize, Broken>
-    requires head_ok { HeadOk (length ws.old) h }
-    requires r_lt_n { r.0 < h.n }
-    ensures { ListsForm h r.0 ws.old result ws.new }
+pub fn list_form(g: &mut GraphMut<'_>, r: Id) -> Result<usize, Broken>
+    requires { r.0 < g.old.h.n }
+    ensures { Did (λ ws ws'. ListsForm g.old.h r.0 ws result ws') g.old g.new }
 {
-    let n = h.n;
-    layout::set_scratch(ws, h, 5 * n, r.0 as usize);
-    finish(ws, h)
+    let n = g.h.n;
+    layout::set_scratch(g, 5 * n, r.0 as usize);
+    finish(g)
 }

@@ -1,5 +1,4 @@
 use Rattle.egraph.specs.Answers.{handed_on, not_set, opens, set_then}
-use Rattle.layout.specs.Head.{head_fits}
 use Rattle.extract.specs.Opens.{open_bad, open_free, open_taken, open_unclean, open_unknown}
 use Rattle.extract.proofs.open.Goals as goal
 
@@ -15,9 +14,6 @@ pub returns-then-not-h : goal.returns-then-not-h
 returns-then-not-h c =
     let O = opens _ _ _ c.read_head.ensures c.ok_or.ensures.value in
     open_unclean _ _ _ O _ c.in_ok-h.was c.if-h-id.false (not_set _ c.if-not-h.true)
-
-pub scratch_is_clear-requires : goal.scratch_is_clear-requires
-scratch_is_clear-requires c = head_fits ((opens _ _ _ c.read_head.ensures c.ok_or.ensures.value).good _ c.in_ok-h.was)
 
 pub returns-then-not-scratch_is_clear : goal.returns-then-not-scratch_is_clear
 returns-then-not-scratch_is_clear c =

@@ -1,7 +1,7 @@
 use Rattle.spelling.specs.Pieces.{Wrote, pieces}
-use Rattle.layout.specs.View.{view}
+use Rattle.layout.specs.Seen.{seen}
 use Rattle.forming.specs.FormNode.{form_piece}
 use Rattle.forming.proofs.put_form.Given as goal
 
 abbrev pub invariant-loop-p : goal.invariant-loop-p
-invariant-loop-p l = Wrote l.initial.out 0 (pieces (form_piece l.h (view l.h.n l.h.m l.ws)) l.p) l.at l.out
+invariant-loop-p l = Wrote l.initial.out 0 (pieces (form_piece l.g.h (seen l.g)) l.p) l.at l.out

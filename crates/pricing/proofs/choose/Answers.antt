@@ -1,12 +1,12 @@
 use native.Mathlib.Omega.{arith}
-use Rattle.pricing.specs.Best.{choose_first, choose_new, choose_old}
+use Rattle.pricing.specs.Best.{choose_new, choose_old}
 use Rattle.pricing.proofs.choose.Goals as goal
 
-pub returns-then-best-eq0 : goal.returns-then-best-eq0
-returns-then-best-eq0 c = choose_first _ c.args.price _ (omega (arith, c.ranges.price)) c.if-best-eq0.true
+pub returns-in-Some : goal.returns-in-Some
+returns-in-Some c = choose_old _ c.args.price _ (omega (arith, c.ranges.price)) _ c.in-Some.is c.if-e-price.true
 
-pub returns-then-price-best : goal.returns-then-price-best
-returns-then-price-best c = choose_new _ c.args.price _ (omega (arith, c.ranges.price)) c.if-best-eq0.false c.if-price-best.true
+pub returns-in_default : goal.returns-in_default
+returns-in_default c = choose_new _ c.args.price _ (omega (arith, c.ranges.price)) (rw c.in-Some.is c.if-e-price.false)
 
-pub returns : goal.returns
-returns c = choose_old _ c.args.price _ (omega (arith, c.ranges.price)) c.if-best-eq0.false (omega (arith, c.if-price-best.false))
+pub returns-in_default-2 : goal.returns-in_default-2
+returns-in_default-2 c = choose_new _ c.args.price _ (omega (arith, c.ranges.price)) (rw c.in_default.is tt)

@@ -1,8 +1,7 @@
 use Prim.Native.Nat.{◌≤◌}
-use mathlib.Core.Path.{◌≡◌}
-use lib.ListN.{length}
+use Rattle.layout.specs.Did.{Did}
 use Rattle.pricing.specs.Pass.{Passing}
 use Rattle.pricing.proofs.pass.Given as goal
 
 abbrev pub invariant-loop-r : goal.invariant-loop-r
-invariant-loop-r l = (l.taken ≤ l.r) × (length l.ws ≡ length l.initial.ws) × Passing l.h l.r l.taken l.initial.ws l.ws
+invariant-loop-r l = (l.taken ≤ l.r) × Did (Passing l.initial.g.h l.r l.taken) l.initial.g l.g

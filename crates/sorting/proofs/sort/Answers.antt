@@ -1,5 +1,8 @@
-use Rattle.sorting.specs.Promise.{whole_area, sorts_done}
+use Rattle.std.proofs.Common.{List, Ok, rules, subst, ℕ}
+use Rattle.sorting.specs.Promise.{Sorts, whole_area, sorts_done}
 use Rattle.sorting.proofs.sort.Goals as goal
 
 pub returns : goal.returns
-returns c = sorts_done _ _ _ _ _ _ (whole_area _ _ _ _ c.requires.0 c.requires.1 (c.are_ids.ensures.holds c.if-not-are_ids.false)) c.sort_run.ensures
+returns c =
+    let sorted = sorts_done _ _ _ _ _ _ (whole_area _ _ _ _ c.requires.0 c.requires.1 (c.are_ids.ensures.holds c.if-not-are_ids.false)) c.sort_run.ensures.did in
+    subst (λ (ws : List ℕ). Sorts c.args.ws.now ws c.args.n c.args.m c.args.k (Ok c.sort_run.result)) (search rules) sorted

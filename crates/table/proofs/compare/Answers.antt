@@ -1,11 +1,9 @@
 use Rattle.broken.specs.Words.{is_broken}
-use Rattle.lists.specs.Tests.{Says}
-use Rattle.language.specs.Struct.{node_of}
 use Rattle.table.specs.Seeking.{compare_broken, compared}
 use Rattle.table.proofs.compare.Goals as goal
 
 pub same-requires : goal.same-requires
-same-requires c = ((c.key.ensures.found _ c.in_ok-key.was).1.few, c.requires.2)
+same-requires c = ((c.key.ensures.found _ c.in_ok-key.was).1.few, c.requires.1)
 
 pub returns : goal.returns
 returns c = compared _ _ _ _ _ _ (rw (c.key.ensures.found _ c.in_ok-key.was).1.exact at c.same.ensures)

@@ -1,7 +1,6 @@
-use mathlib.Core.Path.{◌≡◌}
-use lib.ListN.{length}
+use Rattle.layout.specs.Did.{Did}
 use Rattle.tidying.specs.Refill.{RefilledTo}
 use Rattle.tidying.proofs.refill.Given as goal
 
 abbrev pub invariant-loop-i : goal.invariant-loop-i
-invariant-loop-i l = (length l.ws ≡ length l.initial.ws) × RefilledTo l.h.n l.h.m l.list.0 l.d l.i l.initial.ws l.ws
+invariant-loop-i l = Did (RefilledTo l.initial.g.h.n l.initial.g.h.m l.list.0 l.d l.i) l.initial.g l.g

@@ -1,11 +1,12 @@
-use mathlib.Core.Path.{◌≡◌}
 use Prim.Native.Nat.{◌*◌, ◌+◌, ◌-◌, ◌≤◌}
-use lib.ListN.{length}
+use Rattle.layout.specs.Did.{Did}
 use Rattle.walking.specs.Walk.{Walking}
 use Rattle.walking.proofs.finish.Given as goal
 
 abbrev pub invariant-loop-at : goal.invariant-loop-at
-invariant-loop-at l = (length l.ws ≡ length l.initial.ws) × (l.at.listed ≤ l.h.n) × (l.at.depth ≤ l.h.n) × Walking l.h l.at.listed l.at.depth l.initial.ws l.ws
+invariant-loop-at l =
+    let h = l.initial.g.h in
+    (l.at.listed ≤ h.n) × (l.at.depth ≤ h.n) × Did (Walking h l.at.listed l.at.depth) l.initial.g l.g
 
 abbrev pub decreases-loop-at : goal.decreases-loop-at
-decreases-loop-at l = 3 * l.h.n - (2 * l.at.listed + l.at.depth)
+decreases-loop-at l = 3 * l.initial.g.h.n - (2 * l.at.listed + l.at.depth)

@@ -7,8 +7,8 @@ use Rattle.eclass.proofs.ops.has_op.Goals as goal
 pub loop-id-init : goal.loop-id-init
 loop-id-init c = has_start _ _ _ _ _ _ _ (c.into_iter-id-iterator.ensures.into_iter_gives ∙ c.of_class-id-items.ensures.all)
 
-pub op_is-requires-clause-id_lt_n : goal.op_is-requires-clause-id_lt_n
-op_is-requires-clause-id_lt_n c = omega (arith, c.requires.head_ok.ids_in, walk_low _ _ _ _ _ _ c.in-Some.ensures.steps _ _ _ _ c.requires.fine_in c.loop-id.invariant)
+pub op_is-requires : goal.op_is-requires
+op_is-requires c = omega (arith, c.args.classes.now.g.ok.ids_in, walk_low _ _ _ _ _ _ c.in-Some.ensures.steps _ _ _ _ (c.args.classes.now.unbroken.fine c.args.r.0 c.requires) c.loop-id.invariant)
 
 pub returns-then-op_is : goal.returns-then-op_is
 returns-then-op_is c = has_found _ _ _ _ _ _ _ _ _ c.in-Some.ensures.steps _ c.op_is.ensures c.loop-id.invariant c.if-op_is.true

@@ -6,7 +6,7 @@ pub loop-i-init : goal.loop-i-init
 loop-i-init g c = pieces_start _ _
 
 pub put-at-requires-clause-r_in_bounds : goal.put-at-requires-clause-r_in_bounds
-put-at-requires-clause-r_in_bounds g c = pieces_room _ _ c.loop-i.i _ _ c.loop-i.invariant _ (omega arith) c.requires.in_bounds
+put-at-requires-clause-r_in_bounds g c = pieces_room _ _ c.loop-i.i _ _ c.loop-i.invariant _ (omega arith) c.requires
 
 pub loop-i-preserved : goal.loop-i-preserved
 loop-i-preserved g c = pieces_next _ _ c.loop-i.i _ _ c.loop-i.invariant _ _ c.put-at.ensures

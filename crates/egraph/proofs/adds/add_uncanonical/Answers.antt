@@ -1,5 +1,6 @@
+use Rattle.std.proofs.Common.{rules, subst}
 use Rattle.broken.specs.Words.{error_is}
-use Rattle.egraph.specs.Adds.{gate_head, adding_no, adding_on}
+use Rattle.egraph.specs.Adds.{UncanonicalOpen, gate_head, adding_no, adding_on}
 use Rattle.egraph.proofs.adds.add_uncanonical.Goals as goal
 
 pub returns-in_err-h : goal.returns-in_err-h
@@ -9,4 +10,4 @@ pub uncanonical_open-requires : goal.uncanonical_open-requires
 uncanonical_open-requires c = let g = gate_head _ _ _ c.enter.ensures _ c.in_ok-h.was in record { head_is = g.0; count_le_places = (g.1, g.2) }
 
 pub returns : goal.returns
-returns c = adding_on _ _ _ _ c.enter.ensures _ c.in_ok-h.was _ _ c.uncanonical_open.ensures
+returns c = adding_on _ _ _ _ c.enter.ensures _ c.in_ok-h.was _ _ (subst (UncanonicalOpen _ _ _) (search rules) c.uncanonical_open.ensures.says)

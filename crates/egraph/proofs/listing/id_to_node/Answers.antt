@@ -11,7 +11,7 @@ pub returns-then-h-id : goal.returns-then-h-id
 returns-then-h-id c = record { few = λ x e. zero_one cc; says = opened _ _ c.read_head.ensures _ c.in_ok-h.was (λ p. stop (omega (arith, ids_is p)) (λ u v. omega arith) refl) }
 
 pub node_open-requires : goal.node_open-requires
-node_open-requires c = record { head_is = c.read_head.ensures.good _ c.in_ok-h.was; id_lt_ids = omega arith }
+node_open-requires c = record { head_stands = c.read_head.ensures.good _ c.in_ok-h.was; id_lt_ids = omega arith }
 
 pub returns : goal.returns
 returns c = record { few = c.node_open.ensures.few; says = opened _ _ c.read_head.ensures _ c.in_ok-h.was (λ p. pass (omega (arith, ids_is p)) (λ u v. omega arith) c.node_open.ensures) }

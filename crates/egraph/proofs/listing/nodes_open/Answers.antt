@@ -10,7 +10,7 @@ pub returns-then-out-k : goal.returns-then-out-k
 returns-then-out-k c = nodes_long _ _ c.requires _ _ c.measure.ensures _ c.in_ok-k.was (omega arith)
 
 pub put_nodes-requires : goal.put_nodes-requires
-put_nodes-requires c = record { head_is = c.requires; ids_in_bounds = nodes_fit _ _ c.requires c.args.out.now _ c.measure.ensures _ c.in_ok-k.was (omega arith) }
+put_nodes-requires c = nodes_fit _ _ c.requires c.args.out.now _ c.measure.ensures _ c.in_ok-k.was (omega arith)
 
 pub returns : goal.returns
 returns c = nodes_listed _ _ c.requires _ _ c.measure.ensures _ c.in_ok-k.was (omega arith) _ _ c.put_nodes.ensures

@@ -10,9 +10,9 @@ use Rattle.layout.proofs.arrays.scratch_is_clear.Goals as goal
 
 pub returns : goal.returns
 returns c =
-    let l = part c.args.ws.now c.scratch.result.start c.scratch.result.end in
-    let size : length l ≡ 6 * c.args.h.n = grind arith in
-    rw (seen_range c.args.ws.now c.scratch.ensures, ← size)
+    let l = part c.args.g.now.ws.now c.scratch.result.start c.scratch.result.end in
+    let size : length l ≡ 6 * c.args.g.now.h.n = grind arith in
+    rw (seen_range c.args.g.now.ws.now c.scratch.ensures, ← size)
     (all_zero _ l
     (cases_from_all _ _ _ (λ x. x ≡ 0) (λ x. x ≢ 0) c.all.ensures.ran (YieldsList-from_slice l cc)
     (λ x q k. search (rules, tests)) (λ x q k. search (rules, tests))))

@@ -1,3 +1,4 @@
+use Rattle.std.specs.Prelude.{refl}
 use native.Mathlib.Omega.{arith}
 use Rattle.broken.specs.Words.{is_broken}
 use Rattle.layout.proofs.Lent.{lent_range}
@@ -8,7 +9,7 @@ overflow_cast-result c = let low = c.find_mut.ensures.inside _ c.in_ok-root.was 
 
 pub returns-in_err-root : goal.returns-in_err-root
 returns-in_err-root c =
-    rw (is_broken _ c.from_residual.ensures.0) (lent_range _ _ c.forest.ensures c.requires.fits.lent c.find_mut.auto.ps (rw c.in_err-root.was at c.find_mut.ensures))
+    rw (is_broken _ c.from_residual.ensures.0) (record { loan = refl; head = refl; did = lent_range _ _ c.forest.ensures c.args.g.now.ok.lent c.find_mut.auto.ps (rw c.in_err-root.was at c.find_mut.ensures) })
 
 pub returns : goal.returns
-returns c = lent_range _ _ c.forest.ensures c.requires.fits.lent c.find_mut.auto.ps (rw c.in_ok-root.was at c.find_mut.ensures)
+returns c = record { loan = refl; head = refl; did = lent_range _ _ c.forest.ensures c.args.g.now.ok.lent c.find_mut.auto.ps (rw c.in_ok-root.was at c.find_mut.ensures) }

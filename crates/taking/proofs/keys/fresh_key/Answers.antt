@@ -12,7 +12,7 @@ pub returns-then-not-known : goal.returns-then-not-known
 returns-then-not-known c = fresh_unknown _ _ _ _ c.given.ensures _ c.in_ok-node.was (c.known.ensures.fails c.if-not-known.true)
 
 pub with_roots-requires : goal.with_roots-requires
-with_roots-requires c = record { head_ok = c.requires.head_ok; count_le_places = (c.given.ensures.found _ c.in_ok-node.was).1.few; known = c.known.ensures.holds c.if-not-known.false }
+with_roots-requires c = record { count_le_places = (c.given.ensures.found _ c.in_ok-node.was).1.few; known = c.known.ensures.holds c.if-not-known.false }
 
 pub returns : goal.returns
 returns c = fresh_done _ _ _ _ c.given.ensures _ c.in_ok-node.was _ c.with_roots.ensures

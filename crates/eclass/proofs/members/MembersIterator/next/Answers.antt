@@ -5,10 +5,10 @@ use Rattle.eclass.specs.Going.{going_fewer, going_low, going_next, going_none, g
 use Rattle.eclass.proofs.members.MembersIterator.next.Goals as goal
 
 pub returns-then-self-eq0-clause-steps : goal.returns-then-self-eq0-clause-steps
-returns-then-self-eq0-clause-steps c = let e = sym c.self.view_is ∙ going_none c.self.inside.h c.self.inside.ws.now _ c.self.inside.id.0 c.if-self-eq0.true in (e, e)
+returns-then-self-eq0-clause-steps c = let e = sym c.self.view_is ∙ going_none c.self.inside.g.h c.self.inside.g.ws.now _ c.self.inside.id.0 c.if-self-eq0.true in (e, e)
 
-pub link-self-inside-requires-clause-id_lt_n : goal.link-self-inside-requires-clause-id_lt_n
-link-self-inside-requires-clause-id_lt_n c = going_low _ _ _ _ c.self.invariant (omega arith)
+pub link-self-inside-requires : goal.link-self-inside-requires
+link-self-inside-requires c = going_low _ _ _ _ c.self.invariant (omega arith)
 
 pub invariant_of-self : goal.invariant_of-self
 invariant_of-self c = going_next _ _ _ _ c.self.invariant (omega arith) _ c.link-self-inside.ensures.exact

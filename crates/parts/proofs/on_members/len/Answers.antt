@@ -1,5 +1,0 @@
-use Rattle.layout.proofs.Lent.{seen_range}
-use Rattle.parts.proofs.on_members.len.Goals as goal
-
-pub returns : goal.returns
-returns c = rw (seen_range _ c.members.ensures) c.len.ensures

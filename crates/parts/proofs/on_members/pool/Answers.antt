@@ -1,0 +1,6 @@
+use Rattle.std.proofs.Common.{refl}
+use Rattle.layout.proofs.Lent.{seen_range}
+use Rattle.parts.proofs.on_members.pool.Goals as goal
+
+pub returns : goal.returns
+returns c = rw (seen_range _ c.members.ensures) (refl, refl, refl)

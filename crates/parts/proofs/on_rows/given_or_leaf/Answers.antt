@@ -1,5 +1,0 @@
-use Rattle.layout.proofs.Lent.{seen_range}
-use Rattle.parts.proofs.on_rows.given_or_leaf.Goals as goal
-
-pub returns : goal.returns
-returns c = rw (seen_range _ c.rows.ensures) c.given_or_leaf.ensures

@@ -1,0 +1,5 @@
+use Rattle.rows.specs.Promise.{given_found}
+use Rattle.rows.proofs.Nodes.given.Goals as goal
+
+pub returns : goal.returns
+returns c = given_found _ _ _ _ _ c.row.ensures

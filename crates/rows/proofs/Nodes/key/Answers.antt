@@ -1,0 +1,5 @@
+use Rattle.rows.specs.Promise.{key_found}
+use Rattle.rows.proofs.Nodes.key.Goals as goal
+
+pub returns : goal.returns
+returns c = key_found _ _ _ _ _ c.row.ensures

@@ -1,0 +1,6 @@
+use Rattle.rows.specs.Read.{leaf_at}
+use Rattle.rows.proofs.Nodes.leaf.Goals as goal
+
+pub returns : goal.returns
+unfolding leaf_at
+returns c = (c.leaf.ensures.0, rw c.leaf.ensures.1)

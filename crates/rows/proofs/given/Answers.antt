@@ -1,5 +1,0 @@
-use Rattle.rows.specs.Promise.{given_found}
-use Rattle.rows.proofs.given.Goals as goal
-
-pub returns : goal.returns
-returns c = given_found _ _ _ _ _ c.read_row.ensures

@@ -1,5 +1,0 @@
-use Rattle.rows.specs.Promise.{key_found}
-use Rattle.rows.proofs.key.Goals as goal
-
-pub returns : goal.returns
-returns c = key_found _ _ _ _ _ c.read_row.ensures

@@ -1,4 +1,0 @@
-use Rattle.sorting.proofs.+sort_run.Given as goal
-
-abbrev pub decreases-sort_run : goal.decreases-sort_run
-decreases-sort_run l = l.k
