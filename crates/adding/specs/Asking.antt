@@ -5,11 +5,10 @@ use Rattle.broken.specs.declared.Broken.{Broken}
 use Rattle.broken.specs.Words.{broken}
 use Rattle.std.proofs.Common.{◌∙◌, ap, subst, sym, arith}
 use Rattle.holds.specs.HoldsLaws.{root_again}
-use Rattle.lists.specs.Options.{none≢some}
 use Rattle.lists.specs.Tests.{zero_one}
-use Rattle.language.specs.Struct.{node_of}
+use Rattle.language.specs.Fitting.{term}
 use Rattle.language.specs.declared.Id.{Id}
-use Rattle.language.specs.declared.Node.{Node}
+use Rattle.language.specs.declared.fit.Fit.{Fit}
 use Rattle.steps.specs.Graph.{Graph, canon, ids}
 use Rattle.closure.specs.Tables.{canon_live}
 use Rattle.adding.specs.Says.{Probes, kept_for}
@@ -20,8 +19,9 @@ use Rattle.holds.specs.NodesLaws.{Asks, nodes_ask}
 use Rattle.layout.specs.View.{view}
 use Rattle.layout.specs.declared.Head.{Head}
 use Rattle.table.specs.Asking.{Answers}
+use Rattle.std.proofs.lemmas.Option.{none-some}
 
-module _ (h : Head) (x : Node) (ws : List ℕ) where
+module _ (h : Head) (x : Fit) (ws : List ℕ) where
   -- on words that hold no graph
   probe_broken : ((g : Graph) (u : ℕ) → HoldsAt h u (view h.n h.m ws) g → ⊥) → Probes h x ws broken
   probe_broken never = record {
@@ -31,33 +31,33 @@ module _ (h : Head) (x : Node) (ws : List ℕ) where
     absent = λ g u H q. absurd (never g u H);
   }
 
-  module _ (w : Result Node Broken) (W : WithRoots ws h x w) where
+  module _ (w : Result Fit Broken) (W : WithRoots ws h x w) where
     pub probe_lost : w ≡ broken → Probes h x ws broken
     probe_lost e = probe_broken (λ g u H. let f = (W.sound g u H).1 in zero_one cc)
 
-    module _ (y : Node) (e : w ≡ Ok y) (a : Result (Option Id) Broken) (A : Answers (view h.n h.m ws).table (view h.n h.m ws).rows h.n h.m (node_of y) a) where
+    module _ (y : Fit) (e : w ≡ Ok y) (a : Result (Option Id) Broken) (A : Answers (view h.n h.m ws).table (view h.n h.m ws).rows h.n h.m (term y) a) where
       -- on words that hold a graph
-      key_is : (g : Graph) (u : ℕ) → HoldsAt h u (view h.n h.m ws) g → node_of y ≡ canon g.roots (node_of x)
+      key_is : (g : Graph) (u : ℕ) → HoldsAt h u (view h.n h.m ws) g → term y ≡ canon g.roots (term x)
       key_is g u H = let k = W.sound g u H in let same : y ≡ k.0 = cc (e, k.1) in rw same k.2
 
-      asks : (g : Graph) (u : ℕ) → HoldsAt h u (view h.n h.m ws) g → Asks (canon g.roots (node_of x)) g.memo (ids g) a
+      asks : (g : Graph) (u : ℕ) → HoldsAt h u (view h.n h.m ws) g → Asks (canon g.roots (term x)) g.memo (ids g) a
       asks g u H =
-          let live = canon_live g.roots (node_of x) (root_again H.forest) in
-          nodes_ask _ _ _ _ _ _ _ H.nodes (canon g.roots (node_of x)) a live (rw (key_is g u H) at A)
+          let live = canon_live g.roots (term x) (root_again H.forest) in
+          nodes_ask _ _ _ _ _ _ _ H.nodes (canon g.roots (term x)) a live (rw (key_is g u H) at A)
 
       pub probe_far : (i : Id) → a ≡ Ok (Some i) → h.ids ≤ i.0 → Probes h x ws broken
       probe_far i t far = probe_broken (λ g u H. omega (arith, (asks g u H).inside i t, H.ids_are))
 
       module _ (o : Option Id) (t : a ≡ Ok o) where
-        hit : (g : Graph) (u i : ℕ) → HoldsAt h u (view h.n h.m ws) g → kept_for g (node_of x) ≡ Some i → (b : Option Id) → o ≡ b → b ≡ Some (record { 0 = i })
+        hit : (g : Graph) (u i : ℕ) → HoldsAt h u (view h.n h.m ws) g → kept_for g (term x) ≡ Some i → (b : Option Id) → o ≡ b → b ≡ Some (record { 0 = i })
         hit g u i H q (Some j) s =
             let f = (asks g u H).found j (t ∙ ap Ok s) in
             let z : j.0 ≡ i = cc (f, q) in
             (λ k. Some (record { 0 = z k }))
-        hit g u i H q None s = absurd (none≢some (sym ((asks g u H).absent (t ∙ ap Ok s)) ∙ q))
+        hit g u i H q None s = absurd (none-some _ (sym ((asks g u H).absent (t ∙ ap Ok s)) ∙ q))
 
-        miss : (g : Graph) (u : ℕ) → HoldsAt h u (view h.n h.m ws) g → kept_for g (node_of x) ≡ None → (b : Option Id) → o ≡ b → b ≡ None
-        miss g u H q (Some j) s = absurd (none≢some (sym q ∙ (asks g u H).found j (t ∙ ap Ok s)))
+        miss : (g : Graph) (u : ℕ) → HoldsAt h u (view h.n h.m ws) g → kept_for g (term x) ≡ None → (b : Option Id) → o ≡ b → b ≡ None
+        miss g u H q (Some j) s = absurd (none-some _ (sym q ∙ (asks g u H).found j (t ∙ ap Ok s)))
         miss g u H q None s = refl
 
         probe_done : ((i : Id) → o ≡ Some i → i.0 < h.ids) → Probes h x ws (Ok (record { seen = o; key = y }))
@@ -72,4 +72,4 @@ module _ (h : Head) (x : Node) (ws : List ℕ) where
       probe_seen i t near = probe_done (Some i) t (λ j q. let same : i ≡ j = cc in rw (← same) near)
 
       pub probe_none : (o : Option Id) → a ≡ Ok o → o ≡ None → Probes h x ws (Ok (record { seen = o; key = y }))
-      probe_none o t none = probe_done o t (λ j q. absurd (none≢some (sym none ∙ q)))
+      probe_none o t none = probe_done o t (λ j q. absurd (none-some _ (sym none ∙ q)))

@@ -3,10 +3,10 @@
 -- Assumes nothing.
 use Rattle.std.specs.Prelude.{Err, None, Ok, Result, Some, List, ◌⊎◌, ◌≡◌, ◌+◌, ◌<◌, ◌≤◌, ℕ, length, Option}
 use Rattle.broken.specs.declared.Broken.{Broken}
-use Rattle.language.specs.Struct.{node_of}
+use Rattle.language.specs.Fitting.{term}
 use Rattle.language.specs.Term.{Term}
 use Rattle.language.specs.declared.Id.{Id}
-use Rattle.language.specs.declared.Node.{Node}
+use Rattle.language.specs.declared.fit.Fit.{Fit}
 use Rattle.steps.specs.Graph.{Graph, canon, kept}
 use Rattle.steps.specs.Machine.{grow}
 use Rattle.adding.specs.declared.GiveError.{GiveError}
@@ -14,7 +14,6 @@ use Rattle.adding.specs.declared.GiveError.TheVariants.{NoRoom}
 use Rattle.adding.specs.declared.Given.{Given}
 use Rattle.adding.specs.declared.Given.TheVariants.{New as GivenNew, Old as GivenOld}
 use Rattle.adding.specs.declared.Probed.{Probed}
-pub use Rattle.growing.specs.Known.{Known}
 use Rattle.growing.specs.Roots.{Rooted}
 use Rattle.holds.specs.Holds.{HoldsAt}
 use Rattle.holds.specs.Inside.{Inside, Near}
@@ -26,13 +25,13 @@ abbrev pub kept_for : Graph → Term → Option ℕ
 kept_for g x = kept (canon g.roots x) g.memo
 
 -- the key is the node with root children, where the words hold a graph; on any words it is a node of as many children, which are ids
-pub record Probes (h : Head) (x : Node) (ws : List ℕ) (r : Result Probed Broken) : Type 0 where
+pub record Probes (h : Head) (x : Fit) (ws : List ℕ) (r : Result Probed Broken) : Type 0 where
   pub key : (p : Probed) → r ≡ Ok p → Rooted h x p.key
   pub inside : (p : Probed) (i : Id) → r ≡ Ok p → p.seen ≡ Some i → i.0 < h.ids
-  pub found : (g : Graph) (u i : ℕ) → HoldsAt h u (view h.n h.m ws) g → kept_for g (node_of x) ≡ Some i
+  pub found : (g : Graph) (u i : ℕ) → HoldsAt h u (view h.n h.m ws) g → kept_for g (term x) ≡ Some i
       → (p : Probed) × (r ≡ Ok p) × (p.seen ≡ Some (record { 0 = i }))
-  pub absent : (g : Graph) (u : ℕ) → HoldsAt h u (view h.n h.m ws) g → kept_for g (node_of x) ≡ None
-      → (p : Probed) × (r ≡ Ok p) × (p.seen ≡ None) × (node_of p.key ≡ canon g.roots (node_of x))
+  pub absent : (g : Graph) (u : ℕ) → HoldsAt h u (view h.n h.m ws) g → kept_for g (term x) ≡ None
+      → (p : Probed) × (r ≡ Ok p) × (p.seen ≡ None) × (term p.key ≡ canon g.roots (term x))
 
 abbrev pub Full : Head → Term → Type 0
 Full h x = (h.n ≤ h.ids) ⊎ (h.m < h.places + length x.kids)

@@ -10,14 +10,14 @@
 #![tactic(auto)]
 
 ghost use Rattle.std.specs.Prelude.{◌≡◌, ◌≤◌};
-ghost use Rattle.language.specs.Term.{places};
-ghost use Rattle.language.specs.Struct.{node_of};
+ghost use Rattle.language.specs.Term.{Known};
+ghost use Rattle.language.specs.Fitting.{term};
 ghost use Rattle.layout.specs.Did.{SameLoan};
-ghost use Rattle.adding.specs.Says.{Known, Probes, Gives, given};
+ghost use Rattle.adding.specs.Says.{Probes, Gives, given};
 ghost use Rattle.adding.specs.declared.GiveError.TheVariants.{BrokenWords};
 
 use broken::Broken;
-use language::{Id, Node};
+use language::{Fit, Id};
 use layout::{Graph, GraphMut};
 use std::error::Error;
 use std::fmt;
@@ -26,7 +26,7 @@ use std::fmt;
 #[derive(Clone, Copy)]
 pub struct Probed {
     pub seen: Option<Id>,
-    pub key: Node,
+    pub key: Fit,
 }
 
 // An id that was there, or a new one.
@@ -47,7 +47,7 @@ impl fmt::Display for GiveError {
     fn fmt<W: fmt::Write>(&self, f: &mut fmt::Formatter<W>) -> fmt::Result {
         match self {
             GiveError::NoRoom => write!(f, "no room for a new id"),
-            GiveError::BrokenWords => write!(f, "words that no calls could have produced"),
+            GiveError::BrokenWords => Broken.fmt(f),
         }
     }
 }
@@ -58,16 +58,16 @@ impl From<Broken> for GiveError {
     ghost from_gives = { λ _ r. r ≡ BrokenWords };
 
     fn from(_broken: Broken) -> GiveError {
-        GiveError::BrokenWords
+        Self::BrokenWords
     }
 }
 
 // What the table has for the node with root children.
-pub fn probe(g: &Graph<'_>, node: Node) -> Result<Probed, Broken>
-    requires { (node.count ≤ places) × Known (node_of node) g.now.h.ids }
-    ensures { Probes g.now.h node g.now.ws.now result }
+pub fn probe(g: &Graph<'_>, fit: Fit) -> Result<Probed, Broken>
+    requires { Known (term fit) g.now.h.ids }
+    ensures { Probes g.now.h fit g.now.ws.now result }
 {
-    let key = growing::with_roots(g, node)?;
+    let key = growing::with_roots(g, fit)?;
     let seen = parts::on_table::ask(g, key)?;
     match seen {
         Some(x) if g.h.ids <= x.0 as usize => Err(Broken),
@@ -76,12 +76,12 @@ pub fn probe(g: &Graph<'_>, node: Node) -> Result<Probed, Broken>
 }
 
 // The id of a node, which is added if it was not there and there is room.
-pub fn give(g: &mut GraphMut<'_>, node: Node) -> Result<Given, GiveError>
-    requires { (node.count ≤ places) × Known (node_of node) g.old.h.ids }
+pub fn give(g: &mut GraphMut<'_>, fit: Fit) -> Result<Given, GiveError>
+    requires { Known (term fit) g.old.h.ids }
     ensures loan { SameLoan g.old g.new }
-    ensures gives { Gives g.old.h (node_of node) g.old.ws.now (given g.new.h result) g.new.ws.now }
+    ensures gives { Gives g.old.h (term fit) g.old.ws.now (given g.new.h result) g.new.ws.now }
 {
-    let p = probe(&g.view(), node)?;
+    let p = probe(&g.view(), fit)?;
     if let Some(x) = p.seen {
         return Ok(Given::Old(x));
     }
@@ -89,9 +89,9 @@ pub fn give(g: &mut GraphMut<'_>, node: Node) -> Result<Given, GiveError>
     if h.n <= h.ids {
         return Err(GiveError::NoRoom);
     }
-    if h.m < h.places + node.count as usize {
+    if h.m < h.places + fit.node.count as usize {
         return Err(GiveError::NoRoom);
     }
-    growing::grow(g, node, p.key)?;
+    growing::grow(g, fit, p.key)?;
     Ok(Given::New(Id(h.ids as u32)))
 }

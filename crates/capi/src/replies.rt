@@ -16,26 +16,14 @@ pub trait Values {
         ensures { result ≡ spoken (yes_with (values self)) };
 }
 
-// Success with no value; `one` and `two` have values.
-fn none() -> Reply
-    ensures { result ≡ spoken (yes_with []) }
-{
-    Reply {
-        number: 0,
-        count: 0,
-        first: 0,
-        second: 0,
-    }
-}
-
+// Success with one value, and with two; success without a value is the struct's default.
 fn one(v: u64) -> Reply
     ensures { result ≡ spoken (yes_with (v ∷ [])) }
 {
     Reply {
-        number: 0,
         count: 1,
         first: v,
-        second: 0,
+        ..Reply::default()
     }
 }
 
@@ -43,10 +31,10 @@ fn two(v: u64, w: u64) -> Reply
     ensures { result ≡ spoken (yes_with (v ∷ w ∷ [])) }
 {
     Reply {
-        number: 0,
         count: 2,
         first: v,
         second: w,
+        ..Reply::default()
     }
 }
 
@@ -54,7 +42,7 @@ impl Values for () {
     ghost values = { λ _. [] };
 
     fn told(self) -> Reply {
-        none()
+        Reply::default()
     }
 }
 
@@ -97,7 +85,7 @@ impl Values for Option<Id> {
     fn told(self) -> Reply {
         match self {
             Some(id) => id.told(),
-            None => none(),
+            None => Reply::default(),
         }
     }
 }
@@ -116,9 +104,7 @@ impl From<Refusal> for Reply {
     fn from(why: Refusal) -> Reply {
         Reply {
             number: why.number(),
-            count: 0,
-            first: 0,
-            second: 0,
+            ..Reply::default()
         }
     }
 }

@@ -11,10 +11,7 @@ use super::Reply;
 pub extern "C" fn rimo_need(n: usize, m: usize) -> usize
     ensures { Needs n m result }
 {
-    if !layout::limits_fit(n, m) {
-        return 0;
-    }
-    layout::need(n, m)
+    layout::words_for(n, m).unwrap_or(0)
 }
 
 // A fresh graph. No value. The limits n and m go beside the words, since a caller may lend more words than they need.

@@ -1,6 +1,6 @@
 -- What the functions that only read promise: `len`, `last` and `link` a word, `nth` the cell that k others follow.
 -- Assumes nothing.
-use Rattle.std.specs.Prelude.{Ok, Result, List, ◌≡◌, refl, ◌+◌, ◌<◌, ◌^◌, ◌≤◌, suc, ℕ, length}
+use Rattle.std.specs.Prelude.{Ok, Result, List, ◌≡◌, refl, ◌+◌, ◌<◌, ◌≤◌, suc, ℕ, length}
 use Rattle.broken.specs.declared.Broken.{Broken}
 use Rattle.broken.specs.Words.{broken, err≢ok}
 use Rattle.std.proofs.Common.{◌∙◌, ap, sym, arith}
@@ -9,11 +9,6 @@ use Rattle.cells.specs.Pool.{Pool, row}
 use Rattle.cells.specs.Rows.{fits}
 use Rattle.cells.specs.Stretch.{part_list}
 use Rattle.cells.specs.Trail.{trail, trail_inside, trail_part}
-
--- r is the word at i
-pub record Word (ws : List ℕ) (i r : ℕ) : Type 0 where
-  pub exact : r ≡ at ws i
-  pub small : r < 2 ^ 32
 
 -- ---- the cell of list a that k others follow
 

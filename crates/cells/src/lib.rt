@@ -17,12 +17,14 @@ ghost use Rattle.cells.specs.Writes.{pick};
 ghost use Rattle.cells.specs.Trail.{trail};
 ghost use Rattle.cells.specs.Changes.{Room, Pushed, Joined};
 ghost use Rattle.cells.specs.Empty.{Emptied, Cleared};
-ghost use Rattle.cells.specs.Reading.{Word, Reached};
+ghost use Rattle.cells.specs.Reading.{Reached};
 ghost use Rattle.cells.specs.Cuts.{Seen, Removed};
+ghost use Rattle.lists.specs.Reads.{Word};
 
 use broken::Broken;
 
-// Where a cell stands in a list: how many cells are before it, the index of the word that names it, and the cell that follows it, if one does.
+// Where a cell stands in a list: how many cells are before it, the index of the word that names it, and the cell that follows it. Where none does, `after` is 0
+// and no `None`: 0 is what `remove` writes in that case, so that an `Option` would be turned back into it at its one use.
 #[derive(Clone, Copy)]
 struct Spot {
     before: usize,
@@ -143,7 +145,8 @@ impl Pool<'_> {
         self.ws[p] as usize
     }
 
-    // k steps back from a cell.
+    // k steps back from a cell. This walk, and those of `seek`, of table's `seek` and of tidying's `copy`, are no iterator of cells: each keeps something
+    // else of a cell passed (its number, the word that names it, the id that it is), and each meets broken links, where it refuses.
     fn walk(&self, cell: usize, k: usize) -> Result<usize, Broken>
         requires { cell < self.now.cells }
         ensures { result ≡ trail self.now.ws.now self.now.lists self.now.cells k cell }

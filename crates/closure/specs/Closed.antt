@@ -12,10 +12,11 @@ use Rattle.lists.specs.Reads.{at, get_or_map_lt}
 use Rattle.language.specs.Term.{Match, Term}
 use Rattle.steps.specs.Forced.{Forced, Made, alike, asked, back, rebuilt, self, then}
 use Rattle.steps.specs.Graph.{Graph, canon, ids, kept, key_of, node, root, uses}
-use Rattle.steps.specs.Machine.{Rebuild, Rebuilt, close, count, done, grow, lookup, merge, more, run, run_on, step, taken, union, union_by}
+use Rattle.steps.specs.Machine.{Rebuild, Rebuilt, close, done, grow, lookup, merge, more, run, run_on, step, taken, union, union_by}
 use Rattle.closure.specs.Induct.{made_keeps}
 use Rattle.closure.specs.Invariant.{Good, Same, Settled}
 use Rattle.closure.specs.Kept.{made_good}
+use Rattle.std.specs.Int.{from_bool}
 
 -- ---- 1. one root: forced, also before a rebuild
 
@@ -132,7 +133,7 @@ pub one_outcome : {g h h' : Graph} {y y' t t' : ℕ} → Rebuild g y t h → Reb
 one_outcome (done e) (done e') = (refl, refl, refl)
 one_outcome (done e) (more n r) = absurd (n e)
 one_outcome (more n r) (done e) = absurd (n e)
-one_outcome (more {g = g} n r) (more n' r') = let s = one_outcome r r' in (ap (λ k. count (step g g.pending).answer + k) s.0, ap suc s.1, s.2)
+one_outcome (more {g = g} n r) (more n' r') = let s = one_outcome r r' in (ap (λ k. from_bool (step g g.pending).answer + k) s.0, ap suc s.1, s.2)
 
 -- ---- the function with fuel runs the rebuild, if it took less than its fuel
 
@@ -150,7 +151,7 @@ run_rebuild (suc f) g h = run_on_rebuild g.pending g f (run f) refl (run_rebuild
 -- and a rebuild is what the function gives, with any fuel above what is taken
 run_on_enough : (p : List ℕ) (g : Graph) (next : Graph → Rebuilt) → g.pending ≡ p → p ≢ [] → run_on p g next ≡ record {
   graph = (next (step g g.pending).graph).graph;
-  yeses = count (step g g.pending).answer + (next (step g g.pending).graph).yeses;
+  yeses = from_bool (step g g.pending).answer + (next (step g g.pending).graph).yeses;
   entries = suc (next (step g g.pending).graph).entries;
 }
 unfolding run_on
@@ -164,7 +165,7 @@ run_enough (done {g = g} e) (suc f) lt = rw e
 run_enough (more n r) zero lt = absurd (omega arith)
 run_enough (more {g = g} n r) (suc f) lt = let ih = run_enough r f (omega arith) in run_on_enough g.pending g (run f) refl n ∙ λ i. record {
   graph = (ih i).graph;
-  yeses = count (step g g.pending).answer + (ih i).yeses;
+  yeses = from_bool (step g g.pending).answer + (ih i).yeses;
   entries = suc (ih i).entries;
 }
 

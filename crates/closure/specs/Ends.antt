@@ -10,13 +10,14 @@ use Rattle.lists.specs.Relabel.{relabel, relabel_hit}
 use Rattle.steps.specs.Classes.{number_of_classes}
 use Rattle.steps.specs.Forced.{Made}
 use Rattle.steps.specs.Graph.{Graph, ids, root, uses}
-use Rattle.steps.specs.Machine.{Rebuild, count, done, marked, merge, more, step}
+use Rattle.steps.specs.Machine.{Rebuild, done, marked, merge, more, step}
 use Rattle.closure.specs.Facts.{root_before, root_relabel}
 use Rattle.closure.specs.Induct.{step_keeps}
 use Rattle.closure.specs.Invariant.{Good, Same, Shape}
 use Rattle.closure.specs.Kept.{made_good}
 use Rattle.closure.specs.Sums.{sizes, sizes_hung, uses_size}
 use Rattle.closure.specs.Taking.{step_good}
+use Rattle.std.specs.Int.{from_bool}
 
 -- ---- a merge leaves a class less
 
@@ -77,7 +78,7 @@ ends_by us (suc n) g G h = go g.pending refl (λ k K lt. ends_by us n k K lt)
     go (i ∷ rest) e ih =
         let full : g.pending ≢ [] = λ q. cons≢nil (sym e ∙ q) in
         let r = ih (step g g.pending).graph (step_good us g g.pending refl G) (omega (arith, step_measure us g g.pending refl full G)) in
-        (count (step g g.pending).answer + r.0, suc r.1, r.2, more full r.3)
+        (from_bool (step g g.pending).answer + r.0, suc r.1, r.2, more full r.3)
 
 -- from any graph with the invariant
 pub rebuild_ends : {us : List (ℕ × ℕ)} {g : Graph} → Good Same us g → (y : ℕ) × (t : ℕ) × (h : Graph) × Rebuild g y t h

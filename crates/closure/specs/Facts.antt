@@ -8,7 +8,7 @@ use Rattle.lists.specs.Members.{Mem, here, mem-append-cases, mem-cases, mem-left
 use Rattle.lists.specs.Reads.{get_or_map_or, get_or_more, get_or_set_cases}
 use Rattle.lists.specs.Relabel.{Hit, relabel, relabel_cases, relabel_miss}
 use Rattle.lists.specs.Tests.{when_no, when_yes}
-use Rattle.language.specs.Term.{Term, same_term}
+use Rattle.language.specs.Term.{Term, same_term, term_new, term_old}
 use Rattle.steps.specs.Graph.{kept, node, root, uses}
 use Rattle.steps.specs.Machine.{link}
 
@@ -34,11 +34,11 @@ root_map f rs i h = get_or_map_or f i rs i h
 
 pub node_old : (ns : List Term) (x : Term) (i : ℕ) → i < length ns → node (ns ++ (x ∷ [])) i ≡ node ns i
 unfolding node
-node_old ns x i h = get_or-append ns (x ∷ []) (record { op = 0; payload = 0; kids = [] }) i h
+node_old = term_old
 
 pub node_new : (ns : List Term) (x : Term) → node (ns ++ (x ∷ [])) (length ns) ≡ x
 unfolding node
-node_new ns x = get_or-append_seam ns x [] (record { op = 0; payload = 0; kids = [] })
+node_new = term_new
 
 pub uses_more : (ps : List (List ℕ)) (r : ℕ) → uses (ps ++ ([] ∷ [])) r ≡ uses ps r
 unfolding uses

@@ -3,7 +3,6 @@
 use Rattle.std.specs.Prelude.{List, [], ◌++◌, ◌∷◌, ◌⊎◌, refl, ◌<◌, ℕ}
 use Rattle.std.proofs.Common.{inl, inr, ap, arith}
 use Rattle.lists.specs.Members.{Mem, here, mem-append-cases, mem-left, mem-nil, mem_one, mem-right}
-use Rattle.lists.specs.Options.{none≢some}
 use Rattle.steps.specs.Forced.{Forced, Made, added, alike, asked, back, joined, rebuilt, self, start, then}
 use Rattle.steps.specs.Graph.{Graph, ids, kept, root, uses}
 use Rattle.steps.specs.Machine.{fresh, union}
@@ -12,6 +11,7 @@ use Rattle.language.specs.Term.{Term}
 use Rattle.closure.specs.Growing.{add_good}
 use Rattle.closure.specs.Merging.{union_good}
 use Rattle.closure.specs.Taking.{rebuild_good}
+use Rattle.std.proofs.lemmas.Option.{none-some}
 
 pub forced_ask : {ns : List Term} {us : List (ℕ × ℕ)} (vs : List (ℕ × ℕ)) {i j : ℕ} → Forced ns us i j → Forced ns (us ++ vs) i j
 forced_ask vs (asked m) = asked (mem-left vs m)
@@ -63,9 +63,9 @@ fresh_good = record {
     linked = λ i c h m. absurd (omega arith);
   };
   sound = record {
-    memo_lt = λ k i e. absurd (none≢some e);
+    memo_lt = λ k i e. absurd (none-some _ e);
     to_root = λ i. self;
-    keys = λ k i e. absurd (none≢some e);
+    keys = λ k i e. absurd (none-some _ e);
   };
   whole = record { asks = λ i j m. absurd (mem-nil m); covered = λ j h. absurd (omega arith) };
 }

@@ -3,7 +3,6 @@
 use Rattle.std.specs.Prelude.{List, [], ◌++◌, ◌∷◌, map, ◌≢◌, ◌≡◌, refl, ◌<◌, ℕ, length, Option, None, Some}
 use Rattle.std.proofs.Common.{◌∙◌, ap, sym, arith}
 use Rattle.lists.specs.Members.{Mem, map_same, mem-map}
-use Rattle.lists.specs.Options.{none≢some}
 use Rattle.lists.specs.Relabel.{relabel}
 use Rattle.language.specs.Term.{Term, same_term}
 use Rattle.steps.specs.Forced.{Made}
@@ -14,6 +13,7 @@ use Rattle.closure.specs.Induct.{made_keeps, step_keeps}
 use Rattle.closure.specs.Invariant.{Good, Same}
 use Rattle.closure.specs.Kept.{made_good}
 use Rattle.closure.specs.Tables.{Live, canon_live}
+use Rattle.std.proofs.lemmas.Option.{none-some}
 
 abbrev pub Keyed : List Term → List ℕ → List (Term × ℕ) → Type 0
 Keyed ns rs memo = (k : Term) (i : ℕ) → Live rs k → kept k memo ≡ Some i → k ≡ canon rs (node ns i)
@@ -60,7 +60,7 @@ grow_keyed us g x G K = keyed_set ns rs g.memo (canon g.roots x) (ids g) (rw (no
 pub made_keyed : {us : List (ℕ × ℕ)} {g : Graph} → Made us g → Keyed g.nodes g.roots g.memo
 unfolding kept merge
 made_keyed M = made_keeps (λ c g. Keyed g.nodes g.roots g.memo) (record {
-  at_fresh = λ k i live e. absurd (none≢some e);
+  at_fresh = λ k i live e. absurd (none-some _ e);
   at_grow = λ us c g x G kids_in e K. grow_keyed us g x G K;
   steps = record {
     at_mark = λ c g K. K;
@@ -83,7 +83,7 @@ lookup_from {us} {g} M x r e = go (kept (canon g.roots x) g.memo) refl e
     G = made_good M
 
     go : (o : Option ℕ) → kept (canon g.roots x) g.memo ≡ o → root_of g.roots o ≡ Some r → (i : ℕ) × (i < ids g) × (canon g.roots x ≡ key_of g i) × (root g.roots i ≡ r)
-    go None f q = absurd (none≢some q)
+    go None f q = absurd (none-some _ q)
     go (Some i) f q = (i, G.sound.memo_lt (canon g.roots x) i f, made_keyed M (canon g.roots x) i (canon_live g.roots x G.shape.root_root) f, cc q)
 
 -- ---- an entry of a rebuild keeps it

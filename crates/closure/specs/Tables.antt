@@ -7,10 +7,11 @@ use Rattle.std.proofs.Math.Decide.{dec_lt, ℕ_discrete}
 use Rattle.lists.specs.Members.{Mem, mem-of-map}
 use Rattle.language.specs.Term.{Term, same_term}
 use Rattle.steps.specs.Graph.{Graph, canon, ids, kept, key_of, node, root, uses}
-use Rattle.steps.specs.Machine.{Given, Joined, Rebuild, add, add_by, add_uncanonical, close, count, done, grow, lookup, merge, more, step, taken, union, union_by}
+use Rattle.steps.specs.Machine.{Given, Joined, Rebuild, add, add_by, add_uncanonical, close, done, grow, lookup, merge, more, step, taken, union, union_by}
 use Rattle.closure.specs.Facts.{kept_here, kept_past, root_before, root_more}
 use Rattle.closure.specs.Invariant.{Good, Same, Shape}
 use Rattle.closure.specs.Taking.{step_good, taken_shape, top_lt}
+use Rattle.std.specs.Int.{from_bool}
 
 -- a key is live if its children are roots
 abbrev pub Live : List ℕ → Term → Type 0
@@ -125,7 +126,7 @@ step_agree us g m (i ∷ rest) e G A =
     let c = close_agree us g ((key, i) ∷ m) i rest G e (agree_set g.roots g.memo m key i A) (kept key g.memo) refl in
     ((key, i) ∷ m, rw (← (A key (canon_live g.roots (node g.nodes i) G.shape.root_root))) c.0, c.1)
 
-more_as : {h : Graph} {y t : ℕ} (g : Graph) (j : Joined) → step g g.pending ≡ j → g.pending ≢ [] → Rebuild j.graph y t h → Rebuild g (count j.answer + y) (suc t) h
+more_as : {h : Graph} {y t : ℕ} (g : Graph) (j : Joined) → step g g.pending ≡ j → g.pending ≢ [] → Rebuild j.graph y t h → Rebuild g (from_bool j.answer + y) (suc t) h
 more_as g j e n r = rw (← e) (more n (rw (← e) at r))
 
 pub rebuild_agree : (us : List (ℕ × ℕ)) {g h : Graph} {y t : ℕ} (m : List (Term × ℕ)) → Rebuild g y t h → Good Same us g → Agree g.roots g.memo m

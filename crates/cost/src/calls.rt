@@ -1,8 +1,6 @@
 // The open calls on the one array of words. A refusal is written out, and the call then gives what its type starts from: 0, or no. What prints and the words
 // are two parameters, as in the whole program: the first is the program's own, and the second is all that a call is lent.
-ghost use Rattle.std.specs.Prelude.{◌≤◌};
-
-use super::text;
+use super::{Size, text};
 use egraph::Refusal;
 use language::{Id, Node};
 
@@ -20,11 +18,9 @@ fn answered<T: Default>(rt: &impl Print, answer: Result<T, Refusal>) -> T {
     }
 }
 
-// A fresh graph for n ids, with 13 child places for every ten of them.
-pub fn setup(rt: &impl Print, ws: &mut [u32; WORDS], n: u32)
-    requires { n ≤ 50000 }
-{
-    let ids = n as usize;
+// A fresh graph for the ids of a size, with 13 child places for every ten of them.
+pub fn setup(rt: &impl Print, ws: &mut [u32; WORDS], size: Size) {
+    let ids = size.ids as usize;
     answered(rt, egraph::setup(ws, ids, ids * 13 / 10));
 }
 

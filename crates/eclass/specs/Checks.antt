@@ -12,7 +12,7 @@ use Rattle.steps.specs.Graph.{Graph}
 use Rattle.holds.specs.Holds.{HoldsAt}
 use Rattle.layout.specs.View.{View, view}
 use Rattle.layout.specs.declared.Head.{Head}
-use Rattle.language.specs.declared.Node.{Node}
+use Rattle.language.specs.declared.fit.Fit.{Fit}
 use Rattle.rows.specs.Promise.{Key}
 use Rattle.rows.specs.Read.{Sane}
 use Rattle.eclass.specs.ClassCount.{total_le, total_more, total_of}
@@ -61,7 +61,7 @@ unbroken {h} H c = record { few = total_few H c; fine = λ r l. members_fine H r
 
 -- one id
 module _ (rs : List ℕ) (n m N x : ℕ) where
-  pub id_read : (f : Result Node Broken) → x < N → Key rs n m x f → Says (is_ok f) (FineId rs n m N x)
+  pub id_read : (f : Result Fit Broken) → x < N → Key rs n m x f → Says (is_ok f) (FineId rs n m N x)
   id_read (Ok y) l k = says_yes (record { low = l; sane = (k.found y refl).0 })
   id_read (Err _) l k = says_no (λ s. k.broken refl s.sane)
 

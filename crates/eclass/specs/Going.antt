@@ -1,12 +1,19 @@
 -- The walk over the members of a class, on its way, said of the words with the head h: the members that are still to come, and what makes each step a safe one.
 -- Assumes nothing.
-use Rattle.std.specs.Prelude.{List, [], ◌++◌, ◌∷◌, ◌≡◌, refl, ◌+◌, ◌-◌, ◌<◌, ℕ, length}
+use Rattle.std.specs.Prelude.{List, [], ◌++◌, ◌∷◌, ◌≡◌, refl, ◌+◌, ◌-◌, ◌<◌, get_or, suc, zero, ℕ, length}
+use Rattle.std.specs.Iterator.{YieldsLastBy}
 use Rattle.std.proofs.Common.{arith}
-use Rattle.lists.specs.Members.{Mem, here, mem-left, mem-right}
+use Rattle.std.proofs.lemmas.Iterator.{YieldsList}
+use Rattle.std.proofs.lemmas.Iterator.Consumers.{YieldsList-from_shown}
+use Rattle.std.proofs.lemmas.List.{reverse-append}
+use mathlib.Core.List.{reverse}
+use Rattle.language.specs.declared.Id.{Id}
+use Rattle.lists.specs.Members.{Mem, here, mem-left, mem-right, mem_unreverse, there}
 use Rattle.lists.specs.Reads.{at}
 use Rattle.layout.specs.Head.{HeadOk}
 use Rattle.layout.specs.View.{view}
 use Rattle.layout.specs.declared.Head.{Head}
+use Rattle.eclass.specs.Checks.{FineIn}
 use Rattle.eclass.specs.ClassWalk.{back, back_none, back_step, class_ids, length_back}
 
 -- `left` ids that end with cur, first to last
@@ -38,3 +45,18 @@ module _ (h : Head) (ws : List ℕ) where
 
     pub going_next : (link : ℕ) → link ≡ at (view h.n h.m ws).members (h.n + h.n + h.n + cur) → Going h ws (left - 1) link
     going_next link e = record { ok = G.ok; low = λ x m. G.low x (rw (going_step link e) (mem-left (cur ∷ []) m)) }
+
+-- ---- the walk as an iterator
+
+-- what it gives: the members, from the last back
+pub members_back : (todo : List ℕ) → YieldsList (YieldsLastBy (λ (x : Id). x.0) (λ (rest : List ℕ). rest)) (λ (x : Id). x.0) todo (reverse todo)
+members_back = YieldsList-from_shown (YieldsLastBy (λ (x : Id). x.0) (λ (rest : List ℕ). rest)) (λ (x : Id). x.0) reverse (λ s t e. rw e.0 refl) (λ s x t e. rw e (reverse-append t (x.0 ∷ [])))
+
+-- each of them is one of the ids, where the walk is unbroken
+mem_or : (l : List ℕ) (i d : ℕ) → i < length l → Mem (get_or l i d) l
+mem_or [] i d h = absurd (omega arith)
+mem_or (x ∷ l) zero d h = here refl
+mem_or (x ∷ l) (suc i) d h = there (mem_or l i d (omega arith))
+
+pub back_low : (h : Head) (ws : List ℕ) (r : ℕ) → FineIn h ws r → (todo : List ℕ) → todo ≡ members_in h ws r → (k x : ℕ) → k < length (reverse todo) → x ≡ get_or (reverse todo) k x → x < h.ids
+back_low h ws r f todo e k x l q = (f.all x (rw (← e) (mem_unreverse todo (rw q (mem_or (reverse todo) k x l))))).0

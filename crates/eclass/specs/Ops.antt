@@ -1,14 +1,17 @@
 -- The classes that have a node with a given operator, on any words: each id gives itself as a piece of the list, or nothing. On words that hold a clean graph the list is
 -- the graph's.
 -- Assumes nothing.
-use Rattle.std.specs.Prelude.{Bool, false, true, ◌⊎◌, ◌≡◌, refl, ◌+◌, ◌<◌, ◌≤◌, ℕ, eqb, length, set}
+use Rattle.std.specs.Prelude.{Bool, false, true, ◌⊎◌, ◌≡◌, refl, ◌+◌, ◌<◌, ◌≤◌, suc, ℕ, eqb, length, set}
+use Rattle.std.specs.Bool.{MatchBool}
 use Rattle.std.specs.Int.{from_bool}
-use mathlib.Core.List.{List, [], ◌++◌, ◌∷◌}
+use Rattle.std.specs.List.{AllWithin, HoldsAt as TrueAt}
+use mathlib.Core.List.{List, [], ◌∷◌, reverse}
 use Rattle.std.proofs.Common.{eq-eqb, ne_eqb, inl, inr, ◌∙◌, sym, arith}
 use Rattle.std.proofs.Math.Path.{ap}
 use Rattle.std.proofs.Math.Decide.{ℕ_discrete}
 use Rattle.lists.specs.Keeps.{OneOf, any}
-use Rattle.lists.specs.Members.{Mem, mem-cases, mem-map, mem-nil, mem-of-map}
+use Rattle.lists.specs.Members.{Mem, mem-cases, mem-map, mem-nil, mem-of-map, mem_at, mem_reverse, mem_unreverse}
+use Rattle.lists.specs.Reads.{at}
 use Rattle.lists.specs.Tests.{Says, says_no, says_yes, when, when_no, when_yes}
 use Rattle.language.specs.Struct.{node_of}
 use Rattle.language.specs.Term.{Term}
@@ -17,11 +20,11 @@ use Rattle.steps.specs.Graph.{Graph}
 use Rattle.holds.specs.Holds.{HoldsAt}
 use Rattle.layout.specs.View.{View, view}
 use Rattle.layout.specs.declared.Head.{Head}
-use Rattle.language.specs.declared.Node.{Node}
-use Rattle.rows.specs.Promise.{IsNode}
+use Rattle.language.specs.declared.fit.Fit.{Fit}
+use Rattle.language.specs.Fitting.{term}
 use Rattle.rows.specs.Read.{key_read}
 use Rattle.eclass.specs.ClassHeld.{op_listed}
-use Rattle.eclass.specs.ClassWalk.{Walk, class_ids, class_read, walk_end, walk_more, walk_next, walk_start}
+use Rattle.eclass.specs.ClassWalk.{class_ids, class_read}
 use Rattle.spelling.specs.Pieces.{Wrote, pieces, pieces_filter, wrote, wrote_none}
 
 -- ---- the model
@@ -55,47 +58,45 @@ ops_are {h = h} {v = v} H c o =
 
 -- ---- one id, as the code compares it
 
-module _ (rs : List ℕ) (n m x o : ℕ) (y : Node) (k : IsNode y (key_read rs n m x)) where
-  op_of : y.op.0 ≡ (key_read rs n m x).op
+module _ (rs : List ℕ) (n m x o : ℕ) (y : Fit) (k : term y ≡ key_read rs n m x) where
+  op_of : y.node.op.0 ≡ (key_read rs n m x).op
   unfolding node_of
-  op_of = ap (λ (t : Term). t.op) k.exact
+  op_of = ap (λ (t : Term). t.op) k
 
-  pub op_read : Says (eqb y.op.0 o) (OpIs rs n m o x)
-  op_read = go (ℕ_discrete y.op.0 o)
+  pub op_read : Says (eqb y.node.op.0 o) (OpIs rs n m o x)
+  op_read = go (ℕ_discrete y.node.op.0 o)
     where
-      go : Dec (y.op.0 ≡ o) → Says (eqb y.op.0 o) (OpIs rs n m o x)
+      go : Dec (y.node.op.0 ≡ o) → Says (eqb y.node.op.0 o) (OpIs rs n m o x)
       go (yes e) = rw (eq-eqb _ _ e) (says_yes (record { same = sym op_of ∙ e }))
       go (no n) = rw (ne_eqb _ _ n) (says_no (λ s. n (op_of ∙ s.same)))
 
--- ---- one class: none of those that were passed has it
+-- ---- one class, as `any` goes over its members, from the last back
 
-pub record NoneHas (rs : List ℕ) (n m o : ℕ) (d : List ℕ) : Type 0 where
-  pub none : (x : ℕ) → Mem x d → OpIs rs n m o x → ⊥
+-- what holds at each place of a list holds of what the list has
+each_place : (P : ℕ → Type 0) (l : List ℕ) → ((k : ℕ) → k < length l → P (at l k)) → (x : ℕ) → Mem x l → P x
+each_place P [] f x m = absurd (mem-nil m)
+each_place P (y ∷ l) f x m = go (mem-cases m) (each_place P l (λ i h. f (suc i) (omega arith)))
+  where
+    go : (x ≡ y) ⊎ Mem x l → ((z : ℕ) → Mem z l → P z) → P x
+    go (inl e) ih = rw e (f 0 (omega arith))
+    go (inr k) ih = ih x k
 
-module _ (ms rs : List ℕ) (n m o r : ℕ) where
-  pub has_start : (todo : List ℕ) → todo ≡ class_ids ms n r → Walk ms n r todo (NoneHas rs n m o)
-  has_start todo e = walk_start ms n r (NoneHas rs n m o) todo e (record { none = λ x m. absurd (mem-nil m) })
-
-  module _ (todo rest : List ℕ) (cur : ℕ) (step : todo ≡ rest ++ (cur ∷ [])) (b : Bool) (s : Says b (OpIs rs n m o cur)) (w : Walk ms n r todo (NoneHas rs n m o)) where
-    pub has_more : b ≡ false → Walk ms n r rest (NoneHas rs n m o)
-    has_more t = walk_more ms n r todo rest cur step (NoneHas rs n m o) (NoneHas rs n m o) (λ d f. record { none = λ x k. go d f x (mem-cases k) }) w
-      where
-        go : (d : List ℕ) → NoneHas rs n m o d → (x : ℕ) → (x ≡ cur) ⊎ Mem x d → OpIs rs n m o x → ⊥
-        go d f x (inl q) p = s.fails t (rw q at p)
-        go d f x (inr k) p = f.none x k p
-
-    pub has_found : b ≡ true → Says true (HasOp ms rs n m o r)
-    has_found t = says_yes (record { node = (key_read rs n m cur, mem-map (key_read rs n m) (walk_next ms n r todo rest cur step (NoneHas rs n m o) w), (s.holds t).same) })
-
-  pub has_end : (todo : List ℕ) → todo ≡ [] → Walk ms n r todo (NoneHas rs n m o) → Says false (HasOp ms rs n m o r)
-  has_end todo e w = says_no (λ h. go h.node.0 (mem-of-map (key_read rs n m) (class_ids ms n r) h.node.1) h.node.2)
+module _ (ms rs : List ℕ) (n m o r : ℕ) (todo : List ℕ) (e : todo ≡ class_ids ms n r) where
+  pub has_any : (b : Bool)
+      → MatchBool b ((k : ℕ) × (k < length (reverse todo)) × TrueAt (OpIs rs n m o) (reverse todo) k) (AllWithin (λ x. OpIs rs n m o x → ⊥) (reverse todo) 0 (length (reverse todo)))
+      → Says b (HasOp ms rs n m o r)
+  has_any true h =
+      let k = mem_unreverse todo (mem_at (reverse todo) h.0 h.1) in
+      says_yes (record { node = (key_read rs n m (at (reverse todo) h.0), mem-map (key_read rs n m) (rw (← e) k), (h.2 0).same) })
+  has_any false h = says_no (λ f. go f.node.0 (mem-of-map (key_read rs n m) (class_ids ms n r) f.node.1) f.node.2)
     where
-      f : NoneHas rs n m o (class_ids ms n r)
-      f = walk_end ms n r (NoneHas rs n m o) todo e w
+      none : (x : ℕ) → Mem x (reverse todo) → OpIs rs n m o x → ⊥
+      none = each_place (λ x. OpIs rs n m o x → ⊥) (reverse todo) (λ k l. h k 0 (omega arith) l)
 
       go : (t : Term) → (x : ℕ) × Mem x (class_ids ms n r) × (key_read rs n m x ≡ t) → t.op ≡ o → ⊥
-      go t k q = f.none k.0 k.1 (record { same = ap (λ (z : Term). z.op) k.2 ∙ q })
+      go t k q = none k.0 (mem_reverse todo (rw e k.1)) (record { same = ap (λ (z : Term). z.op) k.2 ∙ q })
 
+module _ (ms rs : List ℕ) (n m o r : ℕ) where
   -- ---- its piece
 
   piece_yes : HasOp ms rs n m o r → op_piece ms rs n m o r ≡ r ∷ []

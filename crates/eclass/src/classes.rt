@@ -19,9 +19,7 @@ impl<'a> Classes<'a> {
     pub fn of(g: &Graph<'a>) -> Result<Classes<'a>, Broken>
         ensures { Checked g.now result }
     {
-        if !check(g) {
-            return Err(Broken);
-        }
+        check(g)?;
         Ok(Classes { g: *g })
     }
 }

@@ -9,7 +9,7 @@
 // ids and meet only ids, and a `Classes` is a graph of which it said so. What each function promises: specs/.
 #![tactic(auto)]
 
-ghost use Rattle.std.specs.Prelude.{◌<◌, length};
+ghost use Rattle.std.specs.Prelude.{◌<◌, is_ok, length};
 ghost use Rattle.lists.specs.Tests.{Says};
 ghost use Rattle.layout.specs.Head.{HeadOk};
 ghost use Rattle.layout.specs.Seen.{seen};
@@ -35,46 +35,41 @@ pub fn count_nodes(g: &Graph<'_>) -> Result<usize, Broken>
     Ok(total)
 }
 
-// Whether a walk may meet this: an id, with a row that is within bounds.
-fn fine_id(g: &Graph<'_>, id: Id) -> bool
-    ensures { Says result (FineId (seen g.now).rows g.now.h.n g.now.h.m g.now.h.ids id.0) }
+// What a walk may meet: one of the ids, with a row that is within bounds.
+fn check_id(g: &Graph<'_>, id: Id) -> Result<(), Broken>
+    ensures { Says (is_ok result) (FineId (seen g.now).rows g.now.h.n g.now.h.m g.now.h.ids id.0) }
 {
     if g.h.ids <= id.0 as usize {
-        return false;
+        return Err(Broken);
     }
-    parts::on_rows::key(g, id).is_ok()
+    parts::on_rows::key(g, id)?;
+    Ok(())
 }
 
-// Whether the walk over the list of an id is unbroken.
+// The walk over the list of an id, which is to be unbroken.
 // `Members` asks for a walk that is unbroken, so this one is made step by step.
-fn check_class(g: &Graph<'_>, r: Id) -> bool
+fn check_class(g: &Graph<'_>, r: Id) -> Result<(), Broken>
     requires { r.0 < g.now.h.ids }
-    ensures { Says result (FineIn g.now.h g.now.ws.now r.0) }
+    ensures { Says (is_ok result) (FineIn g.now.h g.now.ws.now r.0) }
 {
     let size = parts::on_members::len(g, r);
     let mut id = parts::on_members::last(g, r);
     for passed in 0..size {
-        if !fine_id(g, id) {
-            return false;
-        }
+        check_id(g, id)?;
         id = parts::on_members::link(g, id);
     }
-    true
+    Ok(())
 }
 
-// Whether all walks are unbroken, and together no longer than there are ids.
-pub fn check(g: &Graph<'_>) -> bool
-    ensures { Says result (UnbrokenIn g.now.h g.now.ws.now) }
+// All walks, which are to be unbroken, and together no longer than there are ids.
+fn check(g: &Graph<'_>) -> Result<(), Broken>
+    ensures { Says (is_ok result) (UnbrokenIn g.now.h g.now.ws.now) }
 {
-    if count_nodes(g).is_err() {
-        return false;
-    }
+    count_nodes(g)?;
     for i in 0..g.h.ids {
-        if !check_class(g, Id(i as u32)) {
-            return false;
-        }
+        check_class(g, Id(i as u32))?;
     }
-    true
+    Ok(())
 }
 
 mod classes;
@@ -84,3 +79,6 @@ mod ops;
 mod pieces;
 
 pub use classes::Classes;
+pub use listing::Whole;
+pub use ops::Having;
+pub use pieces::Piece;

@@ -5,12 +5,11 @@ ghost use Rattle.layout.specs.Head.{HeadOk};
 ghost use Rattle.layout.specs.Seen.{seen};
 ghost use Rattle.rows.specs.Read.{key_read};
 ghost use Rattle.eclass.specs.Checks.{FineIn, UnbrokenIn};
-ghost use Rattle.eclass.specs.Lists.{Before, ClassLongIn, IdWords, Placed, class_piece_in, classes_in};
+ghost use Rattle.eclass.specs.Lists.{Before, ClassLongIn, IdWords, Placed, class_piece_in};
 ghost use Rattle.spelling.specs.Pieces.{Wrote};
 
 use crate::classes::Classes;
 use crate::members::Members;
-use crate::pieces;
 use crate::pieces::Piece;
 use language::Id;
 use layout::Graph;
@@ -62,7 +61,7 @@ fn put_members(classes: &Classes<'_>, out: &mut [u32], place: usize, r: Id, w: u
 
 // The list of all classes: a root's piece is itself, its number of nodes and these nodes; an id that is no root has none.
 #[derive(Clone, Copy)]
-struct Whole;
+pub struct Whole;
 
 impl Piece for Whole {
     ghost piece = { λ s h ws. class_piece_in h ws };
@@ -85,22 +84,5 @@ impl Piece for Whole {
         out[place] = r.0;
         out[place + 1] = count;
         place + 2 + w
-    }
-}
-
-impl Classes<'_> {
-    // How many words all classes take.
-    pub fn measure_classes(&self) -> usize
-        ensures { result ≡ length (classes_in self.now.g.h self.now.g.ws.now) }
-    {
-        pieces::measure(&Whole, self)
-    }
-
-    // All classes, in ascending root id, from the start of a slice that has room for them; the place behind them.
-    pub fn put_classes(&self, out: &mut [u32]) -> usize
-        requires { length (classes_in self.now.g.h self.now.g.ws.now) ≤ length out.old }
-        ensures { Wrote out.old 0 (classes_in self.now.g.h self.now.g.ws.now) result out.new }
-    {
-        pieces::put_all(&Whole, self, out)
     }
 }

@@ -4,12 +4,11 @@ ghost use Rattle.lists.specs.Tests.{Says};
 ghost use Rattle.layout.specs.Head.{HeadOk};
 ghost use Rattle.layout.specs.Seen.{seen};
 ghost use Rattle.eclass.specs.Checks.{FineIn, UnbrokenIn};
-ghost use Rattle.eclass.specs.Ops.{HasOpIn, OpIs, op_piece_in, ops_in};
+ghost use Rattle.eclass.specs.Ops.{HasOpIn, OpIs, op_piece_in};
 ghost use Rattle.spelling.specs.Pieces.{Wrote};
 
 use crate::classes::Classes;
 use crate::members::Members;
-use crate::pieces;
 use crate::pieces::Piece;
 use language::{Id, Op};
 use layout::Graph;
@@ -19,8 +18,8 @@ fn op_is(g: &Graph<'_>, id: Id, op: Op) -> bool
     requires { id.0 < g.now.h.n }
     ensures { Says result (OpIs (seen g.now).rows g.now.h.n g.now.h.m op.0 id.0) }
 {
-    let node = parts::on_rows::key_or_leaf(g, id);
-    node.op == op
+    let key = parts::on_rows::key_or_leaf(g, id);
+    key.node.op == op
 }
 
 // Whether a node of the class has it.
@@ -28,17 +27,12 @@ fn has_op(classes: &Classes<'_>, r: Id, op: Op) -> bool
     requires { r.0 < classes.now.g.h.ids }
     ensures { Says result (HasOpIn classes.now.g.h classes.now.g.ws.now op.0 r.0) }
 {
-    for id in Members::of_class(classes, r) {
-        if op_is(&classes.g, id, op) {
-            return true;
-        }
-    }
-    false
+    Members::of_class(classes, r).any(|id| op_is(&classes.g, id, op))
 }
 
 // The list of the roots of the classes that have a node with this operator: an id's piece is itself, or nothing.
 #[derive(Clone, Copy)]
-struct Having(Op);
+pub struct Having(pub Op);
 
 impl Piece for Having {
     ghost piece = { λ s h ws. op_piece_in h ws s.0.0 };
@@ -53,22 +47,5 @@ impl Piece for Having {
             return place + 1;
         }
         place
-    }
-}
-
-impl Classes<'_> {
-    // How many classes have a node with this operator.
-    pub fn measure_ops(&self, op: Op) -> usize
-        ensures { result ≡ length (ops_in self.now.g.h self.now.g.ws.now op.0) }
-    {
-        pieces::measure(&Having(op), self)
-    }
-
-    // The roots of the classes that have one, ascending, from the start of a slice that has room for them; the place behind them.
-    pub fn put_ops(&self, op: Op, out: &mut [u32]) -> usize
-        requires { length (ops_in self.now.g.h self.now.g.ws.now op.0) ≤ length out.old }
-        ensures { Wrote out.old 0 (ops_in self.now.g.h self.now.g.ws.now op.0) result out.new }
-    {
-        pieces::put_all(&Having(op), self, out)
     }
 }

@@ -29,25 +29,27 @@ pub trait Piece {
         ensures { Wrote out.old place (piece self.now classes.now.g.h classes.now.g.ws.now r.0) result out.new };
 }
 
-// How many words the list takes.
-pub fn measure<P: Piece>(list: &P, classes: &Classes<'_>) -> usize
-    ensures { result ≡ length (pieces (P.piece list.now classes.now.g.h classes.now.g.ws.now) classes.now.g.h.ids) }
-{
-    let mut total = 0;
-    for i in 0..classes.g.h.ids {
-        total += list.words(classes, Id(i as u32));
+impl Classes<'_> {
+    // How many words a list takes.
+    pub fn measure<P: Piece>(&self, list: &P) -> usize
+        ensures { result ≡ length (pieces (P.piece list.now self.now.g.h self.now.g.ws.now) self.now.g.h.ids) }
+    {
+        let mut total = 0;
+        for i in 0..self.g.h.ids {
+            total += list.words(self, Id(i as u32));
+        }
+        total
     }
-    total
-}
 
-// The list, from the start of a slice that has room for it; the place behind it.
-pub fn put_all<P: Piece>(list: &P, classes: &Classes<'_>, out: &mut [u32]) -> usize
-    requires { length (pieces (P.piece list.now classes.now.g.h classes.now.g.ws.now) classes.now.g.h.ids) ≤ length out.old }
-    ensures { Wrote out.old 0 (pieces (P.piece list.now classes.now.g.h classes.now.g.ws.now) classes.now.g.h.ids) result out.new }
-{
-    let mut at = 0;
-    for i in 0..classes.g.h.ids {
-        at = list.put(classes, out, at, Id(i as u32));
+    // A list, from the start of a slice that has room for it; the place behind it.
+    pub fn put<P: Piece>(&self, list: &P, out: &mut [u32]) -> usize
+        requires { length (pieces (P.piece list.now self.now.g.h self.now.g.ws.now) self.now.g.h.ids) ≤ length out.old }
+        ensures { Wrote out.old 0 (pieces (P.piece list.now self.now.g.h self.now.g.ws.now) self.now.g.h.ids) result out.new }
+    {
+        let mut at = 0;
+        for i in 0..self.g.h.ids {
+            at = list.put(self, out, at, Id(i as u32));
+        }
+        at
     }
-    at
 }

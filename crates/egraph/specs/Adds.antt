@@ -7,17 +7,21 @@ use Rattle.broken.specs.declared.Broken.{Broken}
 use Rattle.broken.specs.Words.{apart, broken}
 use mathlib.Core.List.{List, [], ◌∷◌}
 use Rattle.std.proofs.Common.{inl, inr, ◌∙◌, ap, sym, arith}
+use Rattle.std.proofs.Math.Decide.{dec_le}
 use Rattle.std.proofs.Math.Path.{refl, subst}
+use Rattle.std.proofs.lemmas.Option.{none-some}
 use Rattle.lists.specs.Tests.{zero_one}
+use Rattle.language.specs.Fitting.{FitSays, term}
 use Rattle.language.specs.Struct.{node_of}
-use Rattle.language.specs.Term.{Term, places}
+use Rattle.language.specs.Term.{Term, places, Known}
 use Rattle.language.specs.declared.Id.{Id}
 use Rattle.language.specs.declared.Node.{Node}
+use Rattle.language.specs.declared.fit.Fit.{Fit}
 use Rattle.steps.specs.Graph.{Graph, ids, root}
 use Rattle.steps.specs.Machine.{Given as GivenId, add, add_by, add_uncanonical, grow, lookup}
 use Rattle.closure.specs.Facts.{root_more, root_out}
 use Rattle.adding.specs.Giving.{hit, miss, no_graph}
-use Rattle.adding.specs.Says.{Full, Gave, Gives, New, Old, Known, Probes, Room, kept_for}
+use Rattle.adding.specs.Says.{Full, Gave, Gives, New, Old, Probes, Room, kept_for}
 use Rattle.adding.specs.declared.Probed.{Probed}
 use Rattle.adding.specs.declared.GiveError.{GiveError}
 use Rattle.adding.specs.declared.GiveError.TheVariants.{NoRoom as GiveNoRoom, BrokenWords as GiveBroken}
@@ -28,9 +32,9 @@ use Rattle.egraph.specs.declared.Refusal.TheVariants.{BadHead, BadLimits, Broken
 use Rattle.holds.specs.Holds.{Holds, HoldsAt}
 use Rattle.holds.specs.HoldsLaws.{holds_in, holds_written}
 use Rattle.holds.specs.Inside.{Near}
-use Rattle.layout.specs.Head.{HeadIs, head_good}
+use Rattle.layout.specs.Head.{HeadIs, HeadOk, head_good}
 use Rattle.layout.specs.View.{View, hd, view}
-use Rattle.layout.specs.Written.{Noted, written}
+use Rattle.layout.specs.Written.{Noted, head_written, noted_hd, written}
 use Rattle.layout.specs.declared.Head.{Head}
 use Rattle.unionfind.specs.Promise.{Finds}
 
@@ -55,13 +59,14 @@ Barred ws x NotRebuilt = ⊥
 Barred ws x TooLong = ⊥
 Barred ws x BrokenWords = ⊥
 
-abbrev pub Gated : List ℕ → Node → Result Head Refusal → Type 0
-Gated ws x (Ok h) = HeadIs (length ws) (hd ws) h × (x.count ≤ places) × Known (node_of x) h.ids
+-- the node as one that fits, and the head
+abbrev pub Gated : List ℕ → Node → Result (Head × Fit) Refusal → Type 0
+Gated ws x (Ok p) = HeadIs (length ws) (hd ws) p.0 × (p.1.node ≡ x) × Known (term p.1) p.0.ids
 Gated ws x (Err q) = Barred ws x q
 
-module _ (ws : List ℕ) (x : Node) (r : Result Head Refusal) (G : Gated ws x r) where
-  pub gate_head : (h : Head) → r ≡ Ok h → HeadIs (length ws) (hd ws) h × (x.count ≤ places) × Known (node_of x) h.ids
-  gate_head h e = subst (Gated ws x) e G
+module _ (ws : List ℕ) (x : Node) (r : Result (Head × Fit) Refusal) (G : Gated ws x r) where
+  pub gate_head : (h : Head) (y : Fit) → r ≡ Ok (h, y) → HeadIs (length ws) (hd ws) h × (y.node ≡ x) × Known (term y) h.ids
+  gate_head h y e = subst (Gated ws x) e G
 
   over : places < x.count → x.count ≤ places → ⊥
   over a b = omega arith
@@ -83,11 +88,20 @@ module _ (ws : List ℕ) (x : Node) (r : Result Head Refusal) (G : Gated ws x r)
         go BrokenWords b n = absurd b
 
     -- let through
-    gate_on : (h : Head) → r ≡ Ok h → Next → NodeLadder ws x No Next
-    gate_on h e n =
-        let g = gate_head h e in
-        let K : Known (node_of x) (head_of ws).ids = subst (Known (node_of x)) (ids_is g.0) g.2 in
-        pass (head_good g.0) (λ u v. u v) (pass g.1 over (pass K (λ u v. u v) n))
+    gate_on : (h : Head) (y : Fit) → r ≡ Ok (h, y) → Next → NodeLadder ws x No Next
+    gate_on h y e n =
+        let g = gate_head h y e in
+        let K : Known (node_of x) (head_of ws).ids = subst (Known (node_of x)) (ids_is g.0) (rw g.1 at g.2) in
+        let few : x.count ≤ places = rw g.1 at y.few in
+        pass (head_good g.0) (λ u v. u v) (pass few over (pass K (λ u v. u v) n))
+
+-- a node that does not fit has too many children
+pub not_fit : (x : Node) (o : Option Fit) → FitSays x o → o ≡ None → places < x.count
+not_fit x o F e = go (dec_le x.count places)
+  where
+    go : Dec (x.count ≤ places) → places < x.count
+    go (yes h) = absurd (none-some _ (sym e ∙ (F.fits h).1))
+    go (no h) = omega arith
 
 -- ---- lookup
 
@@ -103,40 +117,42 @@ pub record LookupOpen (ws : List ℕ) (x : Term) (r : Result (Option Id) Refusal
 abbrev pub LookupSays : List ℕ → Node → Result (Option Id) Refusal → Type 0
 LookupSays ws x r = NodeLadder ws x (λ k. lookup_says r ≡ no_by k) (LookupOpen ws (node_of x) r)
 
-pub lookup_no : (ws : List ℕ) (x : Node) (r : Result Head Refusal) → Gated ws x r → (q : Refusal) → r ≡ Err q → LookupSays ws x (Err q)
+pub lookup_no : (ws : List ℕ) (x : Node) (r : Result (Head × Fit) Refusal) → Gated ws x r → (q : Refusal) → r ≡ Err q → LookupSays ws x (Err q)
 lookup_no ws x r G q e = gate_no ws x r G (λ k. lookup_says (Err q) ≡ no_by k) (LookupOpen ws (node_of x) (Err q)) q e refl
 
-pub lookup_on : (ws : List ℕ) (x : Node) (r : Result Head Refusal) → Gated ws x r → (h : Head) → r ≡ Ok h → (a : Result (Option Id) Refusal) → LookupOpen ws (node_of x) a → LookupSays ws x a
-lookup_on ws x r G h e a L = gate_on ws x r G (λ k. lookup_says a ≡ no_by k) (LookupOpen ws (node_of x) a) h e L
+pub lookup_on : (ws : List ℕ) (x : Node) (r : Result (Head × Fit) Refusal) → Gated ws x r → (h : Head) (y : Fit) → r ≡ Ok (h, y) → (a : Result (Option Id) Refusal)
+    → LookupOpen ws (term y) a → LookupSays ws x a
+lookup_on ws x r G h y e a L =
+    gate_on ws x r G (λ k. lookup_says a ≡ no_by k) (LookupOpen ws (node_of x) a) h y e (rw (gate_head ws x r G h y e).1 at L)
 
-module _ (ws : List ℕ) (h : Head) (q : HeadIs (length ws) (hd ws) h) (x : Node) (p : Result Probed Broken) (P : Probes h x ws p) where
-  pub lookup_broken : p ≡ broken → LookupOpen ws (node_of x) (Err BrokenWords)
-  lookup_broken e = record { fair = λ k f _. nine k f; sound = λ g H. absurd (no_graph h x ws p P e g (holds_in ws h g q H) (kept_for g (node_of x)) refl) }
+module _ (ws : List ℕ) (h : Head) (q : HeadIs (length ws) (hd ws) h) (x : Fit) (p : Result Probed Broken) (P : Probes h x ws p) where
+  pub lookup_broken : p ≡ broken → LookupOpen ws (term x) (Err BrokenWords)
+  lookup_broken e = record { fair = λ k f _. nine k f; sound = λ g H. absurd (no_graph h x ws p P e g (holds_in ws h g q H) (kept_for g (term x)) refl) }
 
   module _ (y : Probed) (is : p ≡ Ok y) where
-    pub lookup_none : y.seen ≡ None → LookupOpen ws (node_of x) (Ok None)
+    pub lookup_none : y.seen ≡ None → LookupOpen ws (term x) (Ok None)
     unfolding lookup
-    lookup_none e = record { fair = λ k f n. absurd (n (sym (ap (λ (a : Answer). a.number) f))); sound = λ g H. go g H (kept_for g (node_of x)) refl }
+    lookup_none e = record { fair = λ k f n. absurd (n (sym (ap (λ (a : Answer). a.number) f))); sound = λ g H. go g H (kept_for g (term x)) refl }
       where
-        go : (g : Graph) → Holds ws g → (o : Option ℕ) → kept_for g (node_of x) ≡ o → yes_with [] ≡ found_as (lookup g (node_of x))
+        go : (g : Graph) → Holds ws g → (o : Option ℕ) → kept_for g (term x) ≡ o → yes_with [] ≡ found_as (lookup g (term x))
         go g H (Some i) k = let f = hit h x ws p P y is g i (holds_in ws h g q H) k in zero_one cc
         go g H None k = rw k refl
 
     module _ (id : Id) (e : y.seen ≡ Some id) where
       -- the id that was seen is the one that is kept
-      seen_is : (g : Graph) → Holds ws g → (o : Option ℕ) → kept_for g (node_of x) ≡ o → kept_for g (node_of x) ≡ Some id.0
+      seen_is : (g : Graph) → Holds ws g → (o : Option ℕ) → kept_for g (term x) ≡ o → kept_for g (term x) ≡ Some id.0
       seen_is g H (Some i) k = let f = hit h x ws p P y is g i (holds_in ws h g q H) k in let z : ◌≡◌ {A = Id} (record { 0 = i }) id = cc in k ∙ ap (λ (j : Id). Some j.0) z
       seen_is g H None k = let f = (miss h x ws p P y is g (holds_in ws h g q H) k).0 in zero_one cc
 
       module _ (f : Result ℕ Broken) (F : Finds (view h.n h.m ws).forest h.ids id.0 f) where
-        pub lookup_lost : f ≡ broken → LookupOpen ws (node_of x) (Err BrokenWords)
+        pub lookup_lost : f ≡ broken → LookupOpen ws (term x) (Err BrokenWords)
         lookup_lost l = record { fair = λ k s _. nine k s; sound = λ g H. apart l (found_root ws h q id.0 f F g H) }
 
-        pub lookup_found : (z : ℕ) → f ≡ Ok z → LookupOpen ws (node_of x) (Ok (Some (record { 0 = z })))
+        pub lookup_found : (z : ℕ) → f ≡ Ok z → LookupOpen ws (term x) (Ok (Some (record { 0 = z })))
         unfolding lookup
         lookup_found z l = record {
           fair = λ k s _. absurd (never k z s);
-          sound = λ g H. let s : z ≡ root g.roots id.0 = cc (l, found_root ws h q id.0 f F g H) in rw (seen_is g H (kept_for g (node_of x)) refl, s) refl;
+          sound = λ g H. let s : z ≡ root g.roots id.0 = cc (l, found_root ws h q id.0 f F g H) in rw (seen_is g H (kept_for g (term x)) refl, s) refl;
         }
 
 -- ---- add
@@ -157,6 +173,11 @@ pub record Adding (id : Graph → ℕ) (ws : List ℕ) (x : Term) (r : Result Id
 abbrev pub AddingSays : (Graph → ℕ) → List ℕ → Node → Result Id Refusal → List ℕ → Type 0
 AddingSays id ws x r ws' = NodeLadder ws x (λ k. (id_says r ≡ no_by k) × (ws' ≡ ws)) (Adding id ws (node_of x) r ws')
 
+-- an id that was answered is one of those that the head counts, which stands in the words
+pub record AddedIn (k : Head) (ws' : List ℕ) (r : Result Id Refusal) : Type 0 where
+  pub stands : (i : Id) → r ≡ Ok i → HeadIs (length ws') (hd ws') k
+  pub known : (i : Id) → r ≡ Ok i → i.0 < k.ids
+
 abbrev pub UncanonicalOpen : List ℕ → Term → Result Id Refusal → List ℕ → Type 0
 UncanonicalOpen ws x r ws' = Adding (λ g. (add_uncanonical g x).id) ws x r ws'
 
@@ -169,12 +190,12 @@ AddOpen ws x r ws' = Adding (λ g. (add g x).id) ws x r ws'
 abbrev pub AddSays : List ℕ → Node → Result Id Refusal → List ℕ → Type 0
 AddSays ws x r ws' = AddingSays (λ g. (add g (node_of x)).id) ws x r ws'
 
-pub adding_no : (id : Graph → ℕ) (ws : List ℕ) (x : Node) (r : Result Head Refusal) → Gated ws x r → (q : Refusal) → r ≡ Err q → AddingSays id ws x (Err q) ws
+pub adding_no : (id : Graph → ℕ) (ws : List ℕ) (x : Node) (r : Result (Head × Fit) Refusal) → Gated ws x r → (q : Refusal) → r ≡ Err q → AddingSays id ws x (Err q) ws
 adding_no id ws x r G q e = gate_no ws x r G (λ k. (id_says (Err q) ≡ no_by k) × (ws ≡ ws)) (Adding id ws (node_of x) (Err q) ws) q e (refl, refl)
 
-pub adding_on : (id : Graph → ℕ) (ws : List ℕ) (x : Node) (r : Result Head Refusal) → Gated ws x r → (h : Head) → r ≡ Ok h → (a : Result Id Refusal) (ws' : List ℕ) → Adding id ws (node_of x) a ws'
-    → AddingSays id ws x a ws'
-adding_on id ws x r G h e a ws' L = gate_on ws x r G (λ k. (id_says a ≡ no_by k) × (ws' ≡ ws)) (Adding id ws (node_of x) a ws') h e L
+pub adding_on : (id : Graph → ℕ) (ws : List ℕ) (x : Node) (r : Result (Head × Fit) Refusal) → Gated ws x r → (h : Head) (y : Fit) → r ≡ Ok (h, y) → (a : Result Id Refusal) (ws' : List ℕ)
+    → Adding id ws (node_of x) a ws' → AddingSays id ws x a ws'
+adding_on id ws x r G h y e a ws' L = gate_on ws x r G (λ k. (id_says a ≡ no_by k) × (ws' ≡ ws)) (Adding id ws (node_of x) a ws') h y e L
 
 -- the machine's answers
 pub given_old : (g : Graph) (x : Term) (i : ℕ) → kept_for g x ≡ Some i → add_uncanonical g x ≡ record { graph = g; id = i }
@@ -198,6 +219,10 @@ add_old g x i e = ap (λ (a : GivenId). root a.graph.roots a.id) (given_old g x 
 pub add_new : (g : Graph) (x : Term) → length g.roots ≡ ids g → kept_for g x ≡ None → (add g x).id ≡ ids g
 unfolding add grow
 add_new g x l e = ap (λ (a : GivenId). root a.graph.roots a.id) (given_new g x e) ∙ root_more g.roots (ids g) (ids g) l ∙ root_out g.roots (ids g) (omega arith)
+
+-- an answer has one value
+one_value : (a b : ℕ) → yes_with (a ∷ []) ≡ yes_with (b ∷ []) → a ≡ b
+one_value a b e = let q : ◌≡◌ {A = List ℕ} (a ∷ []) (b ∷ []) = ap (λ (x : Answer). x.values) e in cc
 
 nine_not_6 : ◌≡◌ {A = Answer} (no_by 9) (no_by 6) → ⊥
 nine_not_6 e = omega (arith, nine 6 e)
@@ -266,28 +291,6 @@ module _ (id : Graph → ℕ) (ws : List ℕ) (h : Head) (q : HeadIs (length ws)
       grown = λ g H k f. absurd (not_grown g H k f);
     }
 
-    module _ (f : Result ℕ Broken) (F : Finds (view k.n k.m ws1).forest k.ids y.0 f) where
-      find_law : (g : Graph) → Holds ws g → f ≡ Ok (root g.roots y.0)
-      find_law g H =
-          let o = U.old y k e in
-          let F1 : Finds (view k.n k.m ws).forest k.ids y.0 f = subst (λ (l : List ℕ). Finds (view k.n k.m l).forest k.ids y.0 f) o.2 F in
-          let F' : Finds (view h.n h.m ws).forest h.ids y.0 f = subst (λ (s : Head). Finds (view s.n s.m ws).forest s.ids y.0 f) o.1 F1 in
-          found_root ws h q y.0 f F' g H
-
-      pub adding_lost : f ≡ broken → Adding id ws x (Err BrokenWords) ws1
-      adding_lost l = record {
-        size = U.inside.size;
-        rest = past_rest ws h q ws1 U.inside.rest;
-        scratch = scratch_still ws h q ws1 U.inside.scratch;
-        limits = limits_stay ws ws1 U.inside.head;
-        spare = spare_stay ws ws1 U.inside.head;
-        fair = λ k s. inl (nine k s);
-        full = λ s. absurd (nine_not_6 s);
-        found = λ g i H k. apart l (find_law g H);
-        shut = λ g H k s. absurd (not_shut g H k s);
-        grown = λ g H k s. absurd (not_grown g H k s);
-      }
-
   pub adding_new : (y : Id) (k : Head) → u ≡ Ok (New y k) → (ws2 : List ℕ) → Noted ws1 ws2 (written (hd ws1) k) → ((g : Graph) → Holds ws g → kept_for g x ≡ None → id g ≡ ids g)
       → Adding id ws x (Ok y) ws2
   adding_new y k e ws2 N w = record {
@@ -317,16 +320,89 @@ module _ (id : Graph → ℕ) (ws : List ℕ) (h : Head) (q : HeadIs (length ws)
           let g_is : grow g x ≡ (add_uncanonical g x).graph = sym (ap (λ (t : GivenId). t.graph) (given_new g x m)) in
           subst (Holds ws2) g_is (holds_written ws1 ws2 k (grow g x) (ok_still N2 U.inside.size) N at_m)
 
+-- ---- the id that an add leaves is one of the graph's
+
+pub added_none : (k : Head) (ws' : List ℕ) (q : Refusal) → AddedIn k ws' (Err q)
+added_none k ws' q = record { stands = λ i p. zero_one cc; known = λ i p. zero_one cc }
+
+pub added_in : (k : Head) (ws' : List ℕ) (y : Id) → HeadIs (length ws') (hd ws') k → y.0 < k.ids → AddedIn k ws' (Ok y)
+added_in k ws' y s l = record { stands = λ i p. s; known = λ i p. let z : y ≡ i = cc in rw (← z) l }
+
+module _ (ws : List ℕ) (h : Head) (q : HeadIs (length ws) (hd ws) h) (x : Term) (ws1 : List ℕ) (u : Result Gave GiveError) (U : Gives h x ws u ws1) (y : Id) (k : Head) where
+  pub added_old : u ≡ Ok (Old y k) → AddedIn k ws1 (Ok y)
+  added_old e =
+      let o = U.old y k e in
+      let s : HeadIs (length ws1) (hd ws1) k = rw (o.1, o.2) q in
+      added_in k ws1 y s (rw o.1 o.0)
+
+  pub added_new : u ≡ Ok (New y k) → (ws2 : List ℕ) → Noted ws1 ws2 (written (hd ws1) k) → AddedIn k ws2 (Ok y)
+  added_new e ws2 N =
+      let o = U.new y k e in
+      let ok : HeadOk (length ws2) k = ok_still o.1 (N.size ∙ U.inside.size) in
+      added_in k ws2 y (rw (noted_hd N) (head_written (length ws2) (hd ws1) k ok)) (omega (arith, o.0, o.2))
+
 -- ---- `add`: the root of the id
 
-pub add_held : (ws : List ℕ) (h : Head) → HeadIs (length ws) (hd ws) h → (g : Graph) (x : Term) → Holds ws g → kept_for g x ≡ None → (add g x).id ≡ ids g
-add_held ws h q g x H e = let K = holds_in ws h g q H in add_new g x (K.forest.len ∙ K.ids_are) e
-
-pub adding_root : (ws : List ℕ) (h : Head) (q : HeadIs (length ws) (hd ws) h) (x : Term) (ws1 : List ℕ) (u : Result Gave GiveError) (U : Gives h x ws u ws1) (y : Id) (k : Head) (e : u ≡ Ok (Old y k))
-    (f : Result ℕ Broken) (F : Finds (view k.n k.m ws1).forest k.ids y.0 f) (z : ℕ) → f ≡ Ok z → AddOpen ws x (Ok (record { 0 = z })) ws1
-adding_root ws h q x ws1 u U y k e f F z l =
-    adding_old (λ g. (add g x).id) ws h q x ws1 u U y k e z
-    (λ g H m. add_old g x y.0 m ∙ root_is (l, find_law (λ g. (add g x).id) ws h q x ws1 u U y k e f F g H))
+-- no id, no root of it
+pub root_none : (ws : List ℕ) (x : Term) (p : Refusal) (ws' : List ℕ) → UncanonicalOpen ws x (Err p) ws' → AddOpen ws x (Err p) ws'
+root_none ws x p ws' A = record {
+  size = A.size;
+  rest = A.rest;
+  scratch = A.scratch;
+  limits = A.limits;
+  spare = A.spare;
+  fair = A.fair;
+  full = A.full;
+  found = λ g i H m. refused (A.found g i H m).0;
+  shut = A.shut;
+  grown = λ g H m r. refused (A.grown g H m r).0;
+}
   where
-    root_is : {a b : ℕ} → (f ≡ Ok a) × (f ≡ Ok b) → b ≡ a
-    root_is p = cc (p.0, p.1)
+    refused : {v : ℕ} {X : Type 0} → id_says (Err p) ≡ yes_with (v ∷ []) → X
+    refused {v} e = absurd (never (number_of p) v (sym e))
+
+module _ (ws : List ℕ) (x : Term) (y : Id) (ws' : List ℕ) (A : UncanonicalOpen ws x (Ok y) ws') (k : Head) (I : AddedIn k ws' (Ok y)) (f : Result ℕ Broken)
+    (F : Finds (view k.n k.m ws').forest k.ids y.0 f) where
+  -- on words that held a graph, those that are left hold what the machine leaves, and the id is the machine's
+  law : (g : Graph) → Holds ws' (add_uncanonical g x).graph → id_says (Ok y) ≡ yes_with ((add_uncanonical g x).id ∷ []) → f ≡ Ok (add g x).id
+  unfolding add
+  law g H e =
+      let i : y.0 ≡ (add_uncanonical g x).id = one_value y.0 (add_uncanonical g x).id e in
+      rw (← i) (found_root ws' k (I.stands y refl) y.0 f F (add_uncanonical g x).graph H)
+
+  law_found : (g : Graph) (i : ℕ) → Holds ws g → kept_for g x ≡ Some i → f ≡ Ok (add g x).id
+  law_found g i H m = let a = A.found g i H m in law g (rw (a.1, given_old g x i m) H) a.0
+
+  law_grown : (g : Graph) → Holds ws g → kept_for g x ≡ None → Room (head_of ws) x → f ≡ Ok (add g x).id
+  law_grown g H m r = let a = A.grown g H m r in law g a.1 a.0
+
+  pub root_lost : f ≡ broken → AddOpen ws x (Err BrokenWords) ws'
+  root_lost l = record {
+    size = A.size;
+    rest = A.rest;
+    scratch = A.scratch;
+    limits = A.limits;
+    spare = A.spare;
+    fair = λ j s. inl (nine j s);
+    full = λ s. absurd (nine_not_6 s);
+    found = λ g i H m. apart l (law_found g i H m);
+    shut = λ g H m s. absurd (never 6 y.0 (A.shut g H m s).0);
+    grown = λ g H m r. apart l (law_grown g H m r);
+  }
+
+  pub root_given : (z : ℕ) → f ≡ Ok z → AddOpen ws x (Ok (record { 0 = z })) ws'
+  root_given z l = record {
+    size = A.size;
+    rest = A.rest;
+    scratch = A.scratch;
+    limits = A.limits;
+    spare = A.spare;
+    fair = λ j s. absurd (never j z s);
+    full = λ s. absurd (never 6 z s);
+    found = λ g i H m. (same g (law_found g i H m), (A.found g i H m).1);
+    shut = λ g H m s. absurd (never 6 y.0 (A.shut g H m s).0);
+    grown = λ g H m r. (same g (law_grown g H m r), (A.grown g H m r).1);
+  }
+    where
+      same : (g : Graph) → f ≡ Ok (add g x).id → yes_with (z ∷ []) ≡ yes_with ((add g x).id ∷ [])
+      same g e = let s : z ≡ (add g x).id = cc (l, e) in ap (λ (j : ℕ). yes_with (j ∷ [])) s

@@ -25,7 +25,9 @@ use Rattle.layout.specs.Head.{GoodHead, HeadIs, HeadOk, HeadSays, head_good, num
 use Rattle.layout.specs.View.{View, hd, view, view_rest}
 use Rattle.layout.specs.Written.{Noted, head_written, noted_hd, numbers_written, spare_written, written}
 use Rattle.layout.specs.declared.Head.{Head}
+use Rattle.layout.specs.declared.graph.Graph.{Graph as LentGraph}
 use Rattle.uniting.specs.Near.{NearIds, view_near}
+use Rattle.spelling.specs.Pieces.{Wrote, wrote_back, wrote_front}
 
 pub record Answer : Type 0 where
   pub number : ℕ
@@ -147,6 +149,21 @@ module _ {N X : Type 0} (ws : List ℕ) (r : Result Head Refusal) (O : Opens ws 
   pub opened : (h : Head) → r ≡ Ok h → (HeadIs (length ws) (hd ws) h → X) → Unless3 ws N X
   opened h e x = let i = O.good h e in pass (head_good i) (λ b g. b g) (x i)
 
+-- the words opened as a graph to be read: it has these very words, and of its head, or of why it is refused, P says what there is to say
+abbrev pub head_in : Result LentGraph Refusal → Result Head Refusal
+head_in (Ok g) = Ok g.h
+head_in (Err q) = Err q
+
+pub record AsGraph (P : Result Head Refusal → Type 0) (ws : List ℕ) (r : Result LentGraph Refusal) : Type 0 where
+  pub head : P (head_in r)
+  pub words : (g : LentGraph) → r ≡ Ok g → g.ws.now ≡ ws
+
+pub no_graph : {P : Result Head Refusal → Type 0} {ws : List ℕ} {q : Refusal} → P (Err q) → AsGraph P ws (Err q)
+no_graph p = record { head = p; words = λ g e. err≢ok e }
+
+pub a_graph : {P : Result Head Refusal → Type 0} {ws : List ℕ} (g : LentGraph) → P (Ok g.h) → g.ws.now ≡ ws → AsGraph P ws (Ok g)
+a_graph g p e = record { head = p; words = λ k d. let z : g ≡ k = cc in rw (← z) e }
+
 -- what a call hands on where the head could not be read
 pub handed_on : {T : Type 0} (ws : List ℕ) (r : Result Head Refusal) → Opens ws r → (q : Refusal) → r ≡ Err q → (a : Result T Refusal) → IsErrAnd a (λ x. x ≡ q)
     → a ≡ Err BadHead
@@ -222,15 +239,15 @@ module _ (list : Graph → List ℕ) (Whole : Head → List ℕ → Type 0) (rea
           sound = held (Err TooLong) out L;
         }
 
-    pub open_written : (k : ℕ) (out' : List ℕ) → k ≡ length (reads h ws) → k ≤ length out → length out' ≡ length out → take k out' ≡ reads h ws → drop k out' ≡ drop k out
-        → ListOpen list Whole reads ws out (Ok k) out'
-    open_written k out' e l size front back =
+    pub open_written : length (reads h ws) ≤ length out → (k : ℕ) (out' : List ℕ) → Wrote out 0 (reads h ws) k out' → ListOpen list Whole reads ws out (Ok k) out'
+    open_written fits k out' w =
+        let e : k ≡ length (reads h ws) = omega (arith, w.next) in
         let L : Lists (reads h ws) out (Ok k) out' =
-        record { long = λ b. absurd (omega arith); fits = λ _. (ap (λ (x : ℕ). yes_with (x ∷ [])) e, rw e at front, rw e at back) } in
+        record { long = λ b. absurd (omega arith); fits = λ _. (ap (λ (x : ℕ). yes_with (x ∷ [])) e, wrote_front w fits, wrote_back w fits) } in
         record {
           exact = told (Ok k) out' L;
           inside = λ j p. let t : j ≡ k = cc in omega arith;
-          size = size;
+          size = w.size;
           refused = λ j p. absurd (never j k p);
           sound = held (Ok k) out' L;
         }
@@ -279,6 +296,42 @@ module _ (ws : List ℕ) (r : Result Head Refusal) (O : OpensClean ws r) where
 
 pub ids_is : {len : ℕ} {l : List ℕ} {h : Head} → HeadIs len l h → h.ids ≡ (numbers l).ids
 ids_is p = ap (λ (s : Head). s.ids) p.is
+
+-- the head of a graph that knows the id i as a call reads it, or why it refuses
+pub record OpensKnown (ws : List ℕ) (i : ℕ) (r : Result Head Refusal) : Type 0 where
+  pub good : (h : Head) → r ≡ Ok h → HeadIs (length ws) (hd ws) h × (i < h.ids)
+  pub bad : (q : Refusal) → r ≡ Err q → Unless3 ws (q ≡ BadHead) (((head_of ws).ids ≤ i) × (q ≡ UnknownId))
+
+-- as the head is read
+module _ (ws : List ℕ) (i : ℕ) (o : Result Head Refusal) (O : Opens ws o) where
+  pub known_no_head : (q : Refusal) → o ≡ Err q → OpensKnown ws i (Err BadHead)
+  known_no_head q e = record { good = λ h p. err≢ok p; bad = λ x p. let z : x ≡ BadHead = cc in shut ws o O q e z }
+
+  module _ (h : Head) (e : o ≡ Ok h) where
+    pub known_unknown : h.ids ≤ i → OpensKnown ws i (Err UnknownId)
+    known_unknown l = record {
+      good = λ k p. err≢ok p;
+      bad = λ x p. let z : x ≡ UnknownId = cc in opened ws o O h e (λ q. (omega (arith, ids_is q), z));
+    }
+
+    pub known_read : i < h.ids → OpensKnown ws i (Ok h)
+    known_read l = record { good = λ k p. let z : h ≡ k = cc in rw (← z) (O.good h e, l); bad = λ x p. err≢ok (sym p) }
+
+-- the ladder of a call that begins with it, where Bad is an id that is unknown: refused, No of the refusal's number; or on it goes
+module _ (ws : List ℕ) (i : ℕ) (r : Result Head Refusal) (O : OpensKnown ws i r) where
+  pub known_shut : {Bad Good X : Type 0} (No : ℕ → Type 0) → ((head_of ws).ids ≤ i → Bad) → (Bad → Good → ⊥) → (q : Refusal) → r ≡ Err q → No (number_of q)
+      → Unless3 ws (No 3) (Else Bad (No 4) Good X)
+  known_shut No far apart q e n =
+      let b = O.bad q e in
+      let is : (p : Refusal) → q ≡ p → No (number_of p) = λ p z. subst (λ (x : Refusal). No (number_of x)) z n in
+      record { no = λ u. is BadHead (b.no u); on = λ g. let c = b.on g in stop (far c.0) apart (is UnknownId c.1) }
+
+  pub known_opened : {N X : Type 0} (h : Head) → r ≡ Ok h → (HeadIs (length ws) (hd ws) h → i < h.ids → X) → Unless3 ws N X
+  known_opened h e x = let g = O.good h e in pass (head_good g.0) (λ b k. b k) (x g.0 g.1)
+
+-- an id cannot be both unknown and known
+pub far_near : (i k : ℕ) → k ≤ i → i < k → ⊥
+far_near i k f n = omega arith
 
 -- the words past the need of the limits that stand in ws
 abbrev pub past : List ℕ → List ℕ → List ℕ

@@ -13,7 +13,7 @@ use Rattle.eclass.specs.ClassCount.{total_of}
 use Rattle.eclass.specs.ClassHeld.{total_few, total_is}
 use Rattle.eclass.specs.Lists.{classes_are, classes_in}
 use Rattle.eclass.specs.Ops.{ops_are, ops_in}
-use Rattle.spelling.specs.Pieces.{Wrote, wrote_back, wrote_front}
+use Rattle.spelling.specs.Pieces.{Wrote, pieces}
 use Rattle.egraph.specs.Answers.{Else, ListOpen, Lists, OpensClean, Unless3, Unless7, clean_opened, clean_shut, count_says, head_of, held_clean, never, nine, no_by, number_of, open_broken, open_long, open_written, pass, stop, yes_with}
 use Rattle.egraph.specs.declared.Refusal.TheVariants.{BrokenWords, TooLong}
 use Rattle.holds.specs.Holds.{Holds}
@@ -88,17 +88,18 @@ pub list_held : (list : Graph → List ℕ) (reads : Head → List ℕ → List 
     → Else (g.clean ≡ false) ((count_says r ≡ no_by 7) × (out' ≡ out)) (g.clean ≡ true) (Lists (list g) out r out')
 list_held list reads ws g H out r out' s = let t = s.says.on H.good in record { no = λ e. t.no (held_clean H ∙ e); on = λ e. (t.on (held_clean H ∙ e)).sound g H }
 
--- `classes_for_op`
-abbrev pub ForOpOpen : List ℕ → ℕ → List ℕ → Result ℕ Refusal → List ℕ → Type 0
-ForOpOpen ws o out r out' = ListOpen (λ (g : Graph). classes_for_op g o) UnbrokenIn (λ (h : Head) (l : List ℕ). ops_in h l o) ws out r out'
+-- what a list promises that is put together from pieces, one for each id: what `ListSays` says of any list of a graph which these pieces make on clean words that hold it
+abbrev pub PiecesSay : (Head → List ℕ → ℕ → List ℕ) → List ℕ → List ℕ → Result ℕ Refusal → List ℕ → Type 0
+PiecesSay piece ws out r out' =
+    (list : Graph → List ℕ)
+    → ((h : Head) → HeadIs (length ws) (hd ws) h → h.clean ≡ true → (g : Graph) → Holds ws g → pieces (piece h ws) h.ids ≡ list g)
+    → ListSays list (λ (h : Head) (l : List ℕ). pieces (piece h l) h.ids) ws out r out'
 
+-- `classes_for_op`
 abbrev pub ForOpSays : List ℕ → ℕ → List ℕ → Result ℕ Refusal → List ℕ → Type 0
 ForOpSays ws o out r out' = ListSays (λ (g : Graph). classes_for_op g o) (λ (h : Head) (l : List ℕ). ops_in h l o) ws out r out'
 
 -- `classes`
-abbrev pub ClassesOpen : List ℕ → List ℕ → Result ℕ Refusal → List ℕ → Type 0
-ClassesOpen = ListOpen classes UnbrokenIn classes_in
-
 abbrev pub ClassesSays : List ℕ → List ℕ → Result ℕ Refusal → List ℕ → Type 0
 ClassesSays = ListSays classes classes_in
 
@@ -121,10 +122,7 @@ module _ (list : Graph → List ℕ) (reads : Head → List ℕ → List ℕ) (w
     list_long l = open_long list UnbrokenIn reads ws h q out u is (omega arith)
 
     pub list_written : k ≤ length out → (p : ℕ) (out' : List ℕ) → Wrote out 0 (reads h ws) p out' → ListOpen list UnbrokenIn reads ws out (Ok p) out'
-    list_written l p out' w =
-        let n : p ≡ length (reads h ws) = omega (arith, w.next) in
-        let b : length (reads h ws) ≤ length out = omega arith in
-        open_written list UnbrokenIn reads ws h q out u is p out' n (omega arith) w.size (rw n (wrote_front w b)) (rw n (wrote_back w b))
+    list_written l p out' w = open_written list UnbrokenIn reads ws h q out u is (omega arith) p out' w
 
 -- what the words say of the classes with an operator
 pub its_ops : (ws : List ℕ) (h : Head) → HeadIs (length ws) (hd ws) h → h.clean ≡ true → (o : ℕ) (g : Graph) → Holds ws g

@@ -1,25 +1,27 @@
--- What an extraction reads of a graph (document 01, "The price of a form"): the nodes of a class, from the last back in node order, and the node of an id with root
--- children. `Classed` says that words hold a clean graph but for the scratch part, which is lent for an extraction's work; `Stands` says where a walk over a class
--- stands. What is inside of the two is known to the laws of this file alone: whoever reads classes cites these laws and nothing of the parts.
+-- What an extraction reads of a graph (document 01, "The price of a form"): the root of an id, how many nodes the classes have, the nodes of a class, from the last back
+-- in node order, and the node of an id with root children. `Classed` says that words hold a clean graph but for the scratch part, which is lent for an extraction's
+-- work; `AtRest` that this part is 0 as well; `NamesBack` that what a walk over a class gives has the nodes of the graph's class. What is inside of `Classed` is known
+-- to the laws of this file alone: whoever reads classes cites these laws and nothing of the parts.
 -- Assumes nothing.
-use Rattle.std.specs.Prelude.{Err, Ok, Result, true, List, map, ◌≢◌, ◌≡◌, refl, ◌*◌, ◌+◌, ◌-◌, ◌<◌, ◌≤◌, suc, ℕ, length, replicate}
+use Rattle.std.specs.Prelude.{Err, Ok, Result, true, List, map, ◌≢◌, ◌≡◌, refl, ◌*◌, ◌+◌, ◌-◌, ◌<◌, ◌≤◌, suc, ℕ, length, replicate, [], ◌++◌, ◌∷◌, take, zero}
 use Rattle.broken.specs.declared.Broken.{Broken}
 use Rattle.broken.specs.Words.{broken, err≢ok}
-use Rattle.std.proofs.Common.{◌∙◌, ap, subst, sym, arith}
-use Rattle.std.proofs.Math.ListN.{get_or-map, length-map}
+use Rattle.std.proofs.Common.{◌∙◌, ap, subst, sym, arith, add-one}
+use Rattle.std.proofs.Math.ListN.{length-map}
 use Rattle.lists.specs.Members.{Mem, mem_at}
-use Rattle.lists.specs.Reads.{at, get_or_any, get_or_map_lt}
-use Rattle.lists.specs.Tests.{zero_one}
-use Rattle.language.specs.Term.{Term, term_at}
+use Rattle.lists.specs.Reads.{at, get_or_map_lt, Word}
+use Rattle.lists.specs.Tests.{zero_one, when, when_yes, when_no}
+use Rattle.language.specs.Term.{Term, Known}
 use Rattle.language.specs.declared.Id.{Id}
-use Rattle.language.specs.declared.Node.{Node}
-use Rattle.steps.specs.Classes.{class_nodes, class_roots}
+use Rattle.language.specs.declared.fit.Fit.{Fit}
+use Rattle.language.specs.Fitting.{term}
+use Rattle.steps.specs.Classes.{class_nodes, class_roots, total_number_of_nodes}
 use Rattle.steps.specs.Graph.{Graph, ids, key_of, node, root}
 use Rattle.closure.specs.Listed.{nodes_from, roots_has}
+use Rattle.eclass.specs.Checks.{Totals}
+use Rattle.eclass.specs.ClassHeld.{total_few, total_is}
 use Rattle.cells.specs.Cursor.{Cursor as CellWalk, cursor_start, cursor_step, length_low}
 use Rattle.cells.specs.Pool.{row}
-use Rattle.cells.specs.Reading.{Word}
-use Rattle.egraph.specs.declared.Cursor.{Cursor}
 use Rattle.holds.specs.Holds.{Holds, HoldsAt}
 use Rattle.holds.specs.HoldsLaws.{holds_in, root_again}
 use Rattle.layout.specs.Cut.{scratch}
@@ -28,19 +30,20 @@ use Rattle.layout.specs.Lent.{Lent}
 use Rattle.layout.specs.View.{View, hd, put, view}
 use Rattle.layout.specs.declared.Head.{Head}
 use Rattle.rows.specs.Determined.{read_key, sane}
-use Rattle.rows.specs.Promise.{IsNode, IsNodeOf, Key}
+use Rattle.rows.specs.Promise.{IsNodeOf, Key}
 use Rattle.rows.specs.Read.{Sane, key_read}
+use Rattle.parts.specs.Bare.{bare_found}
 use Rattle.unionfind.specs.Forest.{root_low}
+use Rattle.unionfind.specs.Promise.{Finds}
+use Rattle.std.proofs.Math.Decide.{dec_le}
+use Rattle.std.proofs.Math.Seq.{take-suc, take-length}
+use Rattle.std.proofs.lemmas.List.{map-append}
 
 -- ---- the graph that is read
 
 -- every child of a stored node is an id: so it is in every graph that calls make
 abbrev pub KidsKnown : Graph → Type 0
 KidsKnown g = (i c : ℕ) → i < ids g → Mem c (node g.nodes i).kids → c < ids g
-
--- each child is below N
-abbrev pub KidsIn : ℕ → Term → Type 0
-KidsIn N x = (i : ℕ) → i < length x.kids → at x.kids i < N
 
 -- with the numbers of h and the parts of v the words hold the clean graph g, if the scratch part is what it was at rest; of what stands there now nothing is said
 pub record Classed (h : Head) (v : View) (g : Graph) : Type 0 where
@@ -52,11 +55,19 @@ pub record Classed (h : Head) (v : View) (g : Graph) : Type 0 where
 
 -- words at rest
 module _ (ws : List ℕ) (h : Head) (g : Graph) (q : HeadIs (length ws) (hd ws) h) (H : Holds ws g) where
-  pub classed : g.clean ≡ true → KidsKnown g → Classed h (view h.n h.m ws) g
+  classed : g.clean ≡ true → KidsKnown g → Classed h (view h.n h.m ws) g
   classed c K = record { linked = h.places; clear = (view h.n h.m ws).scratch; held = holds_in ws h g q H; clean = c; known = K }
 
   pub scratch_clear : (view h.n h.m ws).scratch ≡ replicate (6 * h.n) 0
   scratch_clear = (holds_in ws h g q H).scratch
+
+-- words that hold the clean graph g, with a scratch part that is 0: it is free for the work
+pub record AtRest (h : Head) (v : View) (g : Graph) : Type 0 where
+  pub classes : Classed h v g
+  pub clear : v.scratch ≡ replicate (6 * h.n) 0
+
+pub at_rest : (ws : List ℕ) (h : Head) (g : Graph) → HeadIs (length ws) (hd ws) h → Holds ws g → g.clean ≡ true → KidsKnown g → AtRest h (view h.n h.m ws) g
+at_rest ws h g q H c K = record { classes = classed ws h g q H c K; clear = scratch_clear ws h g q H }
 
 -- words of which the scratch part alone has changed
 pub classed_lent : {n m : ℕ} {P : List ℕ → List ℕ → Type 0} {ws ws' : List ℕ} {h : Head} {g : Graph} → Lent scratch n m P ws ws' → Classed h (view n m ws) g → Classed h (view n m ws') g
@@ -72,7 +83,7 @@ module _ {h : Head} {v : View} {g : Graph} (C : Classed h v g) where
   unfolding root
   classed_root i l = root_low C.held.forest i (rw classed_ids l)
 
-  pub classed_kids : (i : ℕ) → i < ids g → KidsIn h.ids (key_of g i)
+  pub classed_kids : (i : ℕ) → i < ids g → Known (key_of g i) h.ids
   classed_kids i l j k = kid (rw length-map at k)
     where
       kid : j < length (node g.nodes i).kids → at (map (root g.roots) (node g.nodes i).kids) j < h.ids
@@ -88,6 +99,30 @@ module _ {h : Head} {v : View} {g : Graph} (C : Classed h v g) where
       member i l e =
           roots_has g r (rw (← classed_ids, ← e) (classed_root i l))
           (subst (λ (q : ℕ). root g.roots q ≡ q) e (root_again C.held.forest i))
+
+-- ---- the root of an id, and how many nodes the classes have
+
+-- what `class_root` promises: on any words a root is an id
+pub record ClassRoot (h : Head) (v : View) (i : ℕ) (r : Result Id Broken) : Type 0 where
+  pub low : (x : Id) → r ≡ Ok x → x.0 < h.ids
+  pub sound : (g : Graph) → Classed h v g → i < ids g → r ≡ Ok (record { 0 = root g.roots i })
+
+pub class_root : (h : Head) (v : View) (i : ℕ) (r : Result Id Broken) → Finds v.forest h.ids i (bare_found r) → ClassRoot h v i r
+unfolding root
+class_root h v i r F = record { low = λ x e. F.inside x.0 (ap bare_found e); sound = λ g C l. found r (F.law h.classes g.roots C.held.forest) }
+  where
+    found : (r : Result Id Broken) {k : ℕ} → bare_found r ≡ Ok k → r ≡ Ok (record { 0 = k })
+    found (Ok x) e = let z : x.0 ≡ _ = cc in ap (λ (j : ℕ). Ok (record { 0 = j })) z
+    found (Err _) e = err≢ok e
+
+-- what `count_nodes` promises: on any words there are no more nodes than ids
+pub record NodeCount (h : Head) (v : View) (r : Result ℕ Broken) : Type 0 where
+  pub few : (k : ℕ) → r ≡ Ok k → k ≤ h.ids
+  pub sound : (g : Graph) → Classed h v g → r ≡ Ok (total_number_of_nodes g)
+
+pub node_count : (h : Head) (v : View) (r : Result ℕ Broken) → Totals v.members h.n h.ids r → NodeCount h v r
+node_count h v (Ok k) T = record { few = T.few; sound = λ g C. ap Ok (T.exact k refl ∙ total_is C.held C.clean) }
+node_count h v (Err _) T = record { few = λ k e. err≢ok e; sound = λ g C. absurd (omega (arith, T.broken refl, total_few C.held C.clean)) }
 
 -- ---- the node of an id, with root children
 
@@ -108,8 +143,8 @@ classed_node {h} {v} {g} C i l =
     )
 
 -- what `root_node` promises
-pub record RootNode (h : Head) (v : View) (i : ℕ) (r : Result Node Broken) : Type 0 where
-  pub found : (x : Node) → r ≡ Ok x → Readable h v i × IsNode x (root_node_in h v i)
+pub record RootNode (h : Head) (v : View) (i : ℕ) (r : Result Fit Broken) : Type 0 where
+  pub found : (x : Fit) → r ≡ Ok x → Readable h v i × (term x ≡ root_node_in h v i)
   pub lost : r ≡ broken → Readable h v i → ⊥
   pub sound : (g : Graph) → Classed h v g → i < ids g → IsNodeOf r (key_of g i)
 
@@ -122,7 +157,7 @@ module _ (h : Head) (v : View) (i : ℕ) where
     sound = λ g C l. absurd (let R = (classed_node C i l).0 in omega (arith, R.0));
   }
 
-  pub root_node_read : i < h.ids → (f : Result Node Broken) → Key v.rows h.n h.m i f → RootNode h v i f
+  pub root_node_read : i < h.ids → (f : Result Fit Broken) → Key v.rows h.n h.m i f → RootNode h v i f
   unfolding Readable root_node_in
   root_node_read l f K = record {
     found = λ x e. let q = K.found x e in ((l, q.0), q.1);
@@ -130,149 +165,132 @@ module _ (h : Head) (v : View) (i : ℕ) where
     sound = λ g C k. named f K (classed_node C i k).0 (classed_node C i k).1;
   }
     where
-      named : (f : Result Node Broken) → Key v.rows h.n h.m i f → Readable h v i → {t : Term} → root_node_in h v i ≡ t → IsNodeOf f t
-      named (Ok x) K R e = (x, refl, (K.found x refl).1.exact ∙ e)
+      named : (f : Result Fit Broken) → Key v.rows h.n h.m i f → Readable h v i → {t : Term} → root_node_in h v i ≡ t → IsNodeOf f t
+      named (Ok x) K R e = (x, refl, (K.found x refl).1 ∙ e)
       named (Err _) K R e = absurd (K.broken refl R.1)
 
 -- ---- the nodes of a class, from the last back
 
--- a walk over class c: cur.left of its nodes are still to come, and the next is that of cur.id
-pub record Stands (h : Head) (v : View) (c : ℕ) (cur : Cursor) : Type 0 where
-  low : c < h.n
-  walk : CellWalk v.members h.n h.n c cur.left cur.id.0
+-- what a walk gives: ids that have the nodes, or a refusal
+abbrev pub Items : Type 0
+Items = List (Result Id Broken)
 
--- it stands there still when the scratch part has changed
-pub stands_lent : {n m : ℕ} {P : List ℕ → List ℕ → Type 0} {ws ws' : List ℕ} {h : Head} {c : ℕ} {cur : Cursor} → Lent scratch n m P ws ws' → Stands h (view n m ws) c cur → Stands h (view n m ws') c cur
-stands_lent {n} {m} {P} {ws} {ws'} {h} {c} {cur} t S = subst (λ (v : View). Stands h v c cur) (sym t.else) (record { low = S.low; walk = S.walk })
+-- on any words, a walk of `left` steps from cur: the ids that are met, and a refusal, the last item, where there is none
+unfoldable pub walked : List ℕ → ℕ → ℕ → ℕ → ℕ → Items
+walked ms n N zero cur = []
+walked ms n N (suc k) cur = when (dec_le N cur) (broken ∷ []) (Ok (record { 0 = cur }) ∷ walked ms n N k (at ms (n + n + n + cur)))
 
-module _ {h : Head} {v : View} {g : Graph} (C : Classed h v g) (c : ℕ) (cur : Cursor) (S : Stands h v c cur) where
+-- in words with the head h
+abbrev pub going : Head → List ℕ → ℕ → ℕ → Items
+going h ws left cur = walked (view h.n h.m ws).members h.n h.ids left cur
+
+-- over words of which the scratch part alone has changed it is the same walk
+pub stands_lent : {P : List ℕ → List ℕ → Type 0} {ws ws' : List ℕ} (h : Head) → Lent scratch h.n h.m P ws ws' → (left cur : ℕ) → going h ws' left cur ≡ going h ws left cur
+stands_lent h t left cur = ap (λ (v : View). walked v.members h.n h.ids left cur) t.else
+
+-- each item is an id, but for a refusal at the end
+abbrev pub ItemsKnown : Head → Items → Type 0
+ItemsKnown h [] = Unit {0}
+ItemsKnown h (Ok id ∷ rest) = (id.0 < h.ids) × ItemsKnown h rest
+ItemsKnown h (Err _ ∷ rest) = rest ≡ []
+
+-- the items are ids that have the nodes xs of g, from the last back
+abbrev pub NamesBack : Graph → Items → List Term → Type 0
+NamesBack g [] xs = xs ≡ []
+NamesBack g (Ok id ∷ rest) xs = (ys : List Term) × (xs ≡ ys ++ key_of g id.0 ∷ []) × (id.0 < ids g) × NamesBack g rest ys
+NamesBack g (Err _ ∷ rest) xs = ⊥
+
+-- what `class_nodes` promises
+pub record NodesOf (h : Head) (v : View) (c : ℕ) (r : Result Items Broken) : Type 0 where
+  pub few : (xs : Items) → r ≡ Ok xs → length xs ≤ h.n
+  pub known : (xs : Items) → r ≡ Ok xs → ItemsKnown h xs
+  pub all : (xs : Items) → r ≡ Ok xs → (g : Graph) → Classed h v g → NamesBack g xs (class_nodes g c)
+  pub sound : r ≡ broken → (g : Graph) → Classed h v g → ⊥
+
+-- ---- its steps
+
+module _ (h : Head) (ws : List ℕ) (cur : ℕ) where
+  pub going_none : (left : ℕ) → left ≡ 0 → going h ws left cur ≡ []
+  unfolding walked
+  going_none left e = rw e refl
+
+  pub going_stray : (left : ℕ) → left ≢ 0 → h.ids ≤ cur → going h ws left cur ≡ broken ∷ []
+  unfolding walked
+  going_stray zero s off = absurd (s refl)
+  going_stray (suc k) s off = when_yes (dec_le h.ids cur) _ _ off
+
+  pub going_next : (left next : ℕ) → left ≡ next + 1 → cur < h.ids → (link : ℕ) → link ≡ at (view h.n h.m ws).members (h.n + h.n + h.n + cur)
+      → going h ws left cur ≡ Ok (record { 0 = cur }) ∷ going h ws next link
+  unfolding walked
+  going_next left next q l link e = rw (q, add-one next, e) (when_no (dec_le h.ids cur) _ _ (omega arith))
+
+module _ (h : Head) (ms : List ℕ) where
+  walked_few : (k cur : ℕ) → length (walked ms h.n h.ids k cur) ≤ k
+  unfolding walked
+  walked_few zero cur = omega arith
+  walked_few (suc k) cur = go _ (dec_le h.ids cur) (walked_few k (at ms (h.n + h.n + h.n + cur)))
+    where
+      go : (xs : Items) (d : Dec (h.ids ≤ cur)) → length xs ≤ k → length (when d (broken ∷ []) (Ok (record { 0 = cur }) ∷ xs)) ≤ suc k
+      go xs (yes p) q = omega arith
+      go xs (no n) q = omega arith
+
+  walked_known : (k cur : ℕ) → ItemsKnown h (walked ms h.n h.ids k cur)
+  unfolding walked
+  walked_known zero cur = tt
+  walked_known (suc k) cur = go _ (dec_le h.ids cur) (walked_known k (at ms (h.n + h.n + h.n + cur)))
+    where
+      go : (xs : Items) (d : Dec (h.ids ≤ cur)) → ItemsKnown h xs → ItemsKnown h (when d (broken ∷ []) (Ok (record { 0 = cur }) ∷ xs))
+      go xs (yes p) q = refl
+      go xs (no n) q = (omega arith, q)
+
+sub_one : (k : ℕ) → suc k - 1 ≡ k
+sub_one k = omega arith
+
+-- in a graph: the nodes of the class
+module _ {h : Head} {v : View} {g : Graph} (C : Classed h v g) (c : ℕ) (low : c < h.n) where
   its_row : List ℕ
   its_row = row C.held.members.lists c
 
-  pub stands_few : cur.left ≤ length (class_nodes g c)
+  its_nodes : map (key_of g) its_row ≡ class_nodes g c
   unfolding its_row
-  stands_few = rw (← C.held.tidy_lists C.clean c, length-map) (S.walk.short C.held.members.lists C.held.members.pool)
+  its_nodes = C.held.tidy_lists C.clean c
 
-  -- the node of place k, which is the next: an id has it
-  module _ (k : ℕ) (e : suc k ≡ cur.left) where
-    met : cur.id.0 ≡ at its_row k
-    unfolding its_row
-    met = S.walk.cell C.held.members.lists C.held.members.pool k e
-
-    in_row : k < length its_row
-    unfolding its_row
-    in_row = omega (arith, S.walk.short C.held.members.lists C.held.members.pool)
-
-    pub stands_known : cur.id.0 < ids g
-    unfolding its_row
-    stands_known = rw (← classed_ids C, met) (C.held.members.in_class c (at its_row k) (mem_at its_row k in_row)).0
-
-    pub stands_node : term_at (class_nodes g c) k ≡ key_of g cur.id.0
-    unfolding its_row
-    stands_node =
-        rw (← C.held.tidy_lists C.clean c, met)
-        (get_or_any (map (key_of g) its_row) k _ (key_of g 0) (rw length-map in_row) ∙ get_or-map (key_of g) its_row k 0)
-
--- a cursor, on any words: the next id is one
-abbrev pub Known : Head → Cursor → Type 0
-Known h cur = 0 < cur.left → cur.id.0 < h.ids
-
--- what `class_nodes` promises
-pub record ClassNodes (h : Head) (v : View) (c : ℕ) (r : Result Cursor Broken) : Type 0 where
-  pub few : (cur : Cursor) → r ≡ Ok cur → cur.left ≤ h.n
-  pub known : (cur : Cursor) → r ≡ Ok cur → Known h cur
-  pub stands : (cur : Cursor) → r ≡ Ok cur → Stands h v c cur
-  pub all : (cur : Cursor) → r ≡ Ok cur → (g : Graph) → Classed h v g → cur.left ≡ length (class_nodes g c)
-  pub sound : r ≡ broken → (g : Graph) → Classed h v g → ⊥
-
--- what `previous` promises
-pub record Previous (h : Head) (v : View) (from : Cursor) (r : Result Cursor Broken) : Type 0 where
-  pub fewer : (cur : Cursor) → r ≡ Ok cur → cur.left ≡ from.left - 1
-  pub known : (cur : Cursor) → r ≡ Ok cur → Known h cur
-  pub stands : (cur : Cursor) → r ≡ Ok cur → (c : ℕ) → Stands h v c from → Stands h v c cur
-  pub sound : r ≡ broken → (c : ℕ) → Stands h v c from → (g : Graph) → Classed h v g → ⊥
-
--- what `stand` makes of a count and the word of an id
-pub record StoodAt (N left id : ℕ) (r : Result Cursor Broken) : Type 0 where
-  pub count : (cur : Cursor) → r ≡ Ok cur → cur.left ≡ left
-  pub next : (cur : Cursor) → r ≡ Ok cur → 0 < left → (cur.id.0 ≡ id) × (id < N)
-  pub lost : r ≡ broken → (0 < left) × (N ≤ id)
-
-module _ (N left : ℕ) (x : Id) where
-  pub stood_end : left ≡ 0 → StoodAt N left x.0 (Ok (record { left = left; id = x }))
-  stood_end z = record {
-    count = λ cur e. let p : record { left = left; id = x } ≡ cur = cc in ap (λ (y : Cursor). y.left) (sym p);
-    next = λ cur e s. absurd (omega arith);
-    lost = λ e. err≢ok (sym e);
-  }
-
-  pub stood_lost : left ≢ 0 → N ≤ x.0 → StoodAt N left x.0 broken
-  stood_lost s off = record { count = λ cur e. err≢ok e; next = λ cur e. err≢ok e; lost = λ _. (omega arith, off) }
-
-  pub stood_next : x.0 < N → StoodAt N left x.0 (Ok (record { left = left; id = x }))
-  stood_next l = record {
-    count = λ cur e. let p : record { left = left; id = x } ≡ cur = cc in ap (λ (y : Cursor). y.left) (sym p);
-    next = λ cur e s. let p : record { left = left; id = x } ≡ cur = cc in (ap (λ (y : Cursor). y.id.0) (sym p), l);
-    lost = λ e. err≢ok (sym e);
-  }
-
--- a walk over cells, as a cursor has it
-module _ (h : Head) (v : View) (c left id : ℕ) (r : Result Cursor Broken) (T : StoodAt h.ids left id r) where
-  stood_known : (cur : Cursor) → r ≡ Ok cur → Known h cur
-  stood_known cur e s = let q = T.next cur e (omega (arith, T.count cur e)) in omega (arith, q.0, q.1)
-
-  stood_stands : c < h.n → CellWalk v.members h.n h.n c left id → (cur : Cursor) → r ≡ Ok cur → Stands h v c cur
-  stood_stands l W cur e = record {
-    low = l;
-    walk = record {
-      short = λ L P. rw (T.count cur e) (W.short L P);
-      cell = λ L P i s. (T.next cur e (omega (arith, T.count cur e))).0 ∙ W.cell L P i (s ∙ T.count cur e);
-    };
-  }
-
-  -- a walk that strays is no graph's
-  stood_sound : c < h.n → CellWalk v.members h.n h.n c left id → r ≡ broken → (g : Graph) → Classed h v g → ⊥
-  stood_sound l W e g C =
-      let q = T.lost e in
+  -- of its row the first k are still to come
+  walked_names : (k cur : ℕ) → CellWalk v.members h.n h.n c k cur → NamesBack g (walked v.members h.n h.ids k cur) (map (key_of g) (take k its_row))
+  unfolding walked its_row
+  walked_names zero cur W = refl
+  walked_names (suc k) cur W =
       let M = C.held.members in
-      let s = W.short M.lists M.pool in
-      let i = W.cell M.lists M.pool (left - 1) (omega (arith, q.0)) in
-      let k = (M.in_class c (at (row M.lists c) (left - 1)) (mem_at (row M.lists c) (left - 1) (omega (arith, q.0)))).0 in
-      omega (arith, q.1)
+      let s : k < length its_row = omega (arith, W.short M.lists M.pool) in
+      let e : cur ≡ at its_row k = W.cell M.lists M.pool k refl in
+      let l : cur < h.ids = rw e (M.in_class c (at its_row k) (mem_at its_row k s)).0 in
+      let t : take (suc k) its_row ≡ take k its_row ++ cur ∷ [] = rw e (take-suc its_row k 0 s) in
+      let i : NamesBack g (walked v.members h.n h.ids k (at v.members (h.n + h.n + h.n + cur))) (map (key_of g) (take k its_row)) =
+      walked_names k (at v.members (h.n + h.n + h.n + cur)) (rw (sub_one k) at (cursor_step v.members h.n h.n c low (suc k) cur W (omega arith))) in
+      rw (when_no (dec_le h.ids cur) (broken ∷ []) (Ok (record { 0 = cur }) ∷ walked v.members h.n h.ids k (at v.members (h.n + h.n + h.n + cur))) (omega arith))
+      (map (key_of g) (take k its_row), rw t (map-append (key_of g) (take k its_row) (cur ∷ [])), rw (← classed_ids C) l, i)
 
-module _ (h : Head) (v : View) (c : ℕ) (low : c < h.n) (k : ℕ) (K : Word v.members (c + h.n + h.n) k) where
-  pub nodes_long : h.n < k → ClassNodes h v c broken
+module _ (h : Head) (ws : List ℕ) (c : ℕ) (low : c < h.n) (k : ℕ) (K : Word (view h.n h.m ws).members (c + h.n + h.n) k) where
+  pub nodes_long : h.n < k → NodesOf h (view h.n h.m ws) c broken
   nodes_long l = record {
-    few = λ cur e. err≢ok e;
-    known = λ cur e. err≢ok e;
-    stands = λ cur e. err≢ok e;
-    all = λ cur e. err≢ok e;
-    sound = λ _ g C. length_low v.members h.n h.n c low (rw (← K.exact) l) C.held.members.lists C.held.members.pool;
+    few = λ xs e. err≢ok e;
+    known = λ xs e. err≢ok e;
+    all = λ xs e. err≢ok e;
+    sound = λ _ g C. length_low (view h.n h.m ws).members h.n h.n c low (rw (← K.exact) l) C.held.members.lists C.held.members.pool;
   }
 
-  pub nodes_start : k ≤ h.n → (x : ℕ) → Word v.members c x → (r : Result Cursor Broken) → StoodAt h.ids k x r → ClassNodes h v c r
-  nodes_start l x X r T = record {
-    few = λ cur e. rw (T.count cur e) l;
-    known = stood_known h v c k x r T;
-    stands = stood_stands h v c k x r T low start;
-    all = λ cur e g C. T.count cur e ∙ length_is g C;
-    sound = stood_sound h v c k x r T low start;
+  pub nodes_all : k ≤ h.n → (x : ℕ) → Word (view h.n h.m ws).members c x → NodesOf h (view h.n h.m ws) c (Ok (going h ws k x))
+  unfolding its_row
+  nodes_all l x X = record {
+    few = λ xs e. let q : going h ws k x ≡ xs = cc in rw (← q) (omega (arith, walked_few h (view h.n h.m ws).members k x));
+    known = λ xs e. let q : going h ws k x ≡ xs = cc in rw (← q) (walked_known h (view h.n h.m ws).members k x);
+    all = λ xs e g C. let q : going h ws k x ≡ xs = cc in rw (← q) (named g C);
+    sound = λ e. err≢ok (sym e);
   }
     where
-      start : CellWalk v.members h.n h.n c k x
-      start = rw (K.exact, X.exact) (cursor_start v.members h.n h.n c low)
-
-      length_is : (g : Graph) → Classed h v g → k ≡ length (class_nodes g c)
-      length_is g C = K.exact ∙ ((C.held.members.pool.rows c low).size ∙ rw (← C.held.tidy_lists C.clean c, length-map) refl)
-
-pub previous_done : (h : Head) (v : View) (from : Cursor) (x : ℕ) → 0 < from.left → Word v.members (h.n + h.n + h.n + from.id.0) x
-    → (r : Result Cursor Broken) → StoodAt h.ids (from.left - 1) x r → Previous h v from r
-previous_done h v from x some X r T = record {
-  fewer = T.count;
-  known = stood_known h v 0 (from.left - 1) x r T;
-  stands = λ cur e c S. stood_stands h v c (from.left - 1) x r T S.low (back c S) cur e;
-  sound = λ e c S. stood_sound h v c (from.left - 1) x r T S.low (back c S) e;
-}
-  where
-    back : (c : ℕ) → Stands h v c from → CellWalk v.members h.n h.n c (from.left - 1) x
-    back c S = rw X.exact (cursor_step v.members h.n h.n c S.low from.left from.id.0 S.walk some)
+      named : (g : Graph) (C : Classed h (view h.n h.m ws) g) → NamesBack g (going h ws k x) (class_nodes g c)
+      named g C =
+          let M = C.held.members in
+          let s : k ≡ length (row M.lists c) = K.exact ∙ (M.pool.rows c low).size in
+          let n = walked_names C c low k x (rw (K.exact, X.exact) (cursor_start (view h.n h.m ws).members h.n h.n c low)) in
+          subst (NamesBack g (going h ws k x)) (ap (map (key_of g)) (ap (λ (j : ℕ). take j (row M.lists c)) s ∙ take-length (row M.lists c)) ∙ its_nodes C c low) n

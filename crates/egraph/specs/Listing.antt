@@ -5,28 +5,29 @@ use Rattle.std.specs.Prelude.{Err, Ok, Option, Result, List, ◌≡◌, refl, �
 use Rattle.std.specs.Option.{ok_or}
 use Rattle.broken.specs.declared.Broken.{Broken}
 use Rattle.broken.specs.Words.{broken, err≢ok}
+use Rattle.language.specs.declared.fit.Fit.{Fit}
 use Rattle.language.specs.declared.Node.{Node}
 use Rattle.std.proofs.Common.{◌∙◌, ap, subst, sym, arith}
 use Rattle.std.proofs.Math.Decide.{ℕ_discrete}
 use Rattle.lists.specs.Tests.{zero_one}
-use Rattle.language.specs.Struct.{node_of}
+use Rattle.language.specs.Fitting.{term}
 use Rattle.language.specs.Term.{Term, places, spell, words}
 use Rattle.steps.specs.Classes.{nodes}
 use Rattle.steps.specs.Graph.{Graph, node}
-use Rattle.egraph.specs.Answers.{Else, ListOpen, Unless3, Unless9, head_of, count_says, never, nine, no_by, node_says, open_broken, open_long, open_written, pass, stop, yes_with}
-use Rattle.egraph.specs.Stored.{long_more, stored, stored_is}
+use Rattle.egraph.specs.Answers.{Else, ListOpen, Opens, Unless3, Unless9, head_of, count_says, never, nine, no_by, node_says, open_broken, open_long, open_written, pass, stop, yes_with, OpensKnown, far_near, ids_is, known_shut, number_of, shut}
+use Rattle.egraph.specs.Stored.{stored, stored_is, row_piece, stored_pieces}
 use Rattle.egraph.specs.declared.Refusal.{Refusal}
 use Rattle.egraph.specs.declared.Refusal.TheVariants.{BrokenWords, TooLong}
 use Rattle.holds.specs.Holds.{Holds}
 use Rattle.holds.specs.HoldsLaws.{holds_in}
-use Rattle.layout.specs.Head.{HeadIs}
+use Rattle.layout.specs.Head.{HeadIs, head_good}
 use Rattle.layout.specs.View.{hd, view}
 use Rattle.layout.specs.declared.Head.{Head}
 use Rattle.rows.specs.Determined.{sane}
 use Rattle.rows.specs.Promise.{Given, IsNodeOf}
 use Rattle.rows.specs.Read.{Sane, given_read}
 use Rattle.spelling.specs.Alone.{SpellsOne}
-use Rattle.spelling.specs.Listed.{Listed}
+use Rattle.spelling.specs.Pieces.{Wrote, long_more, pieces}
 
 -- ---- one node
 
@@ -54,6 +55,12 @@ pub record NodeSays (ws : List ℕ) (i : ℕ) (r : Result Node Refusal) : Type 0
       (Else ((head_of ws).ids ≤ i) (node_says r ≡ no_by 4) (i < (head_of ws).ids)
       (NodeOpen ws i r))
 
+pub node_shut : (ws : List ℕ) (i : ℕ) (r : Result Head Refusal) → OpensKnown ws i r → (q : Refusal) → r ≡ Err q → NodeSays ws i (Err q)
+node_shut ws i r O q e = record {
+  few = λ x p. err≢ok p;
+  says = known_shut ws i r O (λ (k : ℕ). no_by (number_of q) ≡ no_by k) (λ l. l) (far_near i (head_of ws).ids) q e refl;
+}
+
 -- that node as words at the start of a list; refused as `id_to_node` refuses, with the list as it was, and by 8 where the list is too short
 abbrev pub NodeIn : Result Node Refusal → List ℕ → Result ℕ Refusal → List ℕ → Type 0
 NodeIn (Ok x) list r list' = (s : Option ℕ) × SpellsOne list x s list' × (r ≡ ok_or s TooLong)
@@ -64,7 +71,11 @@ pub record NodeSpelled (ws : List ℕ) (i : ℕ) (list : List ℕ) (r : Result �
   pub made : NodeSays ws i answer
   pub spelled : NodeIn answer list r list'
 
-module _ (ws : List ℕ) (h : Head) (q : HeadIs (length ws) (hd ws) h) (i : ℕ) (f : Result Node Broken) (G : Given (view h.n h.m ws).rows h.n h.m i f) (hi : i < h.ids) where
+-- with the head in hand, of an id below its number of ids
+pub node_on : (ws : List ℕ) (h : Head) → HeadIs (length ws) (hd ws) h → (i : ℕ) → i < h.ids → (r : Result Node Refusal) → NodeOpen ws i r → NodeSays ws i r
+node_on ws h q i l r N = record { few = N.few; says = pass (head_good q) (λ b g. b g) (pass (omega (arith, ids_is q)) (far_near i (head_of ws).ids) N) }
+
+module _ (ws : List ℕ) (h : Head) (q : HeadIs (length ws) (hd ws) h) (i : ℕ) (f : Result Fit Broken) (G : Given (view h.n h.m ws).rows h.n h.m i f) (hi : i < h.ids) where
   -- what the rows answer on words that hold a graph
   law : (g : Graph) → Holds ws g → IsNodeOf f (node g.nodes i)
   unfolding node
@@ -78,12 +89,12 @@ module _ (ws : List ℕ) (h : Head) (q : HeadIs (length ws) (hd ws) h) (i : ℕ)
     sound = λ g H. let s = (law g H).1 in zero_one cc;
   }
 
-  pub node_is : (x : Node) → f ≡ Ok x → NodeOpen ws i (Ok x)
+  pub node_is : (x : Fit) → f ≡ Ok x → NodeOpen ws i (Ok x.node)
   node_is x e = record {
-    exact = subst (λ (s : Head). NodeAt s ws i (Ok x)) q.is (pass (G.found x e).0 (λ a b. a b) (ap (λ (t : Term). yes_with (words t)) (G.found x e).1.exact));
-    few = λ y p. let z : x ≡ y = cc in rw (← z) (G.found x e).1.few;
+    exact = subst (λ (s : Head). NodeAt s ws i (Ok x.node)) q.is (pass (G.found x e).0 (λ a b. a b) (ap (λ (t : Term). yes_with (words t)) (G.found x e).1));
+    few = λ y p. let z : x.node ≡ y = cc in rw (← z) x.few;
     fair = λ k p. absurd (never k _ p);
-    sound = λ g H. let s = law g H in let z : s.0 ≡ x = let t = s.1 in cc in ap (λ (t : Term). yes_with (words t)) (ap node_of (sym z) ∙ s.2);
+    sound = λ g H. let s = law g H in let z : s.0 ≡ x = let t = s.1 in cc in ap (λ (t : Term). yes_with (words t)) (ap term (sym z) ∙ s.2);
   }
 
 -- ---- all of them
@@ -103,6 +114,13 @@ pub record NodesSays (ws out : List ℕ) (r : Result ℕ Refusal) (out' : List �
   pub inside : (k : ℕ) → r ≡ Ok k → k ≤ length out
   pub says : Unless3 ws ((count_says r ≡ no_by 3) × (out' ≡ out)) (NodesOpen ws out r out')
 
+-- as the head is read: refused, or on it goes
+pub nodes_shut : (ws out : List ℕ) (r : Result Head Refusal) → Opens ws r → (q : Refusal) → r ≡ Err q → NodesSays ws out (Err q) out
+nodes_shut ws out r O q e = record { inside = λ k p. err≢ok p; says = shut ws r O q e (rw (O.bad q e).0 (refl, refl)) }
+
+pub nodes_on : (ws : List ℕ) (h : Head) → HeadIs (length ws) (hd ws) h → {out : List ℕ} (r : Result ℕ Refusal) (out' : List ℕ) → NodesOpen ws out r out' → NodesSays ws out r out'
+nodes_on ws h q r out' N = record { inside = N.inside; says = pass (head_good q) (λ b g. b g) N }
+
 -- how long a row is in words, and how long all of the first k together, where no row among them is broken
 pub record RowWords (rs : List ℕ) (n m i : ℕ) (r : Result ℕ Refusal) : Type 0 where
   pub whole : (x : ℕ) → r ≡ Ok x → x ≡ length (words (given_read rs n m i))
@@ -115,7 +133,7 @@ pub record Measured (rs : List ℕ) (n m k : ℕ) (r : Result ℕ Refusal) : Typ
   pub sane : (x : ℕ) → r ≡ Ok x → (i : ℕ) → i < k → Sane rs n m i
   pub broken : (q : Refusal) → r ≡ Err q → (q ≡ BrokenWords) × (((i : ℕ) → i < k → Sane rs n m i) → ⊥)
 
-module _ (rs : List ℕ) (n m i : ℕ) (f : Result Node Broken) (G : Given rs n m i f) where
+module _ (rs : List ℕ) (n m i : ℕ) (f : Result Fit Broken) (G : Given rs n m i f) where
   pub row_broken : f ≡ broken → RowWords rs n m i (Err BrokenWords)
   row_broken e = record {
     whole = λ x p. err≢ok p;
@@ -124,18 +142,18 @@ module _ (rs : List ℕ) (n m i : ℕ) (f : Result Node Broken) (G : Given rs n 
     broken = λ q p. (cc, G.broken e);
   }
 
-  pub row_words : (x : Node) → f ≡ Ok x → (k : ℕ) → (k ≡ length (words (node_of x))) × (k ≡ 3 + x.count) → RowWords rs n m i (Ok k)
+  pub row_words : (x : Fit) → f ≡ Ok x → (k : ℕ) → (k ≡ length (words (term x))) × (k ≡ 3 + x.node.count) → RowWords rs n m i (Ok k)
   row_words x d k e = record {
-    whole = λ y p. let s : y ≡ k = cc in s ∙ rw (← (G.found x d).1.exact) e.0;
-    few = λ y p. let s : y ≡ k = cc in omega (arith, e.1, (G.found x d).1.few);
+    whole = λ y p. let s : y ≡ k = cc in s ∙ rw (← (G.found x d).1) e.0;
+    few = λ y p. let s : y ≡ k = cc in omega (arith, e.1);
     sane = λ y p. (G.found x d).0;
     broken = λ q p. err≢ok (sym p);
   }
 
 -- one row more, a broken row, and the end
-pub measure_more : (rs : List ℕ) (n m i total x : ℕ) (r : Result ℕ Refusal) → RowWords rs n m i r → r ≡ Ok x → total ≡ length (spell (stored rs n m i))
-    → total + x ≡ length (spell (stored rs n m (i + 1)))
-measure_more rs n m i total x r w e t = omega (arith, w.whole x e, long_more rs n m i)
+pub measure_more : (rs : List ℕ) (n m i total x : ℕ) (r : Result ℕ Refusal) → RowWords rs n m i r → r ≡ Ok x → total ≡ length (pieces (row_piece rs n m) i)
+    → total + x ≡ length (pieces (row_piece rs n m) (i + 1))
+measure_more rs n m i total x r w e t = long_more (row_piece rs n m) i total x t (w.whole x e)
 
 pub sane_none : (rs : List ℕ) (n m j : ℕ) → j < 0 → Sane rs n m j
 sane_none rs n m j h = absurd (omega arith)
@@ -155,9 +173,9 @@ module _ (rs : List ℕ) (n m k : ℕ) where
     broken = λ p s. let t : q ≡ p = cc in (sym t ∙ (w.broken q e).0, λ a. (w.broken q e).1 (a i h));
   }
 
-  pub measure_whole : (x : ℕ) → x ≡ length (spell (stored rs n m k)) → ((i : ℕ) → i < k → Sane rs n m i) → Measured rs n m k (Ok x)
+  pub measure_whole : (x : ℕ) → x ≡ length (pieces (row_piece rs n m) k) → ((i : ℕ) → i < k → Sane rs n m i) → Measured rs n m k (Ok x)
   measure_whole x e f = record {
-    whole = λ y p. let t : y ≡ x = cc in t ∙ e;
+    whole = λ y p. let t : y ≡ x = cc in t ∙ e ∙ ap length (sym (stored_pieces rs n m k));
     sane = λ y p. f;
     broken = λ q p. err≢ok (sym p);
   }
@@ -187,5 +205,5 @@ module _ (ws : List ℕ) (h : Head) (q : HeadIs (length ws) (hd ws) h) (out : Li
       pub nodes_fit : x ≤ length out → length (nodes_in h ws) ≤ length out
       nodes_fit l = omega (arith, M.whole x e)
 
-      pub nodes_listed : x ≤ length out → (p : ℕ) (out' : List ℕ) → Listed out (stored rs h.n h.m h.ids) p out' → NodesOpen ws out (Ok p) out'
-      nodes_listed l p out' L = open_written nodes RowsIn nodes_in ws h q out (M.sane x e) its_list p out' L.place (omega (arith, M.whole x e, L.place)) L.size L.front L.back
+      pub nodes_listed : x ≤ length out → (p : ℕ) (out' : List ℕ) → Wrote out 0 (nodes_in h ws) p out' → NodesOpen ws out (Ok p) out'
+      nodes_listed l p out' w = open_written nodes RowsIn nodes_in ws h q out (M.sane x e) its_list (nodes_fit l) p out' w

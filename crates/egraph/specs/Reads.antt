@@ -3,14 +3,14 @@
 -- Assumes nothing.
 use Rattle.egraph.specs.declared.Refusal.{Refusal}
 use Rattle.language.specs.declared.Id.{Id}
-use Rattle.std.specs.Prelude.{Err, Ok, Result, Bool, List, [], ◌∷◌, ◌≡◌, ◌<◌, ◌≤◌, ℕ, eqb, length}
+use Rattle.std.specs.Prelude.{Err, Ok, Result, Bool, List, [], ◌∷◌, ◌≡◌, refl, ◌<◌, ◌≤◌, ℕ, eqb, length}
 use Rattle.broken.specs.declared.Broken.{Broken}
 use Rattle.broken.specs.Words.{apart, broken}
 use Rattle.std.proofs.Common.{◌∙◌, sym}
 use Rattle.std.proofs.Math.Path.{ap}
 use Rattle.steps.specs.Classes.{number_of_classes}
 use Rattle.steps.specs.Graph.{Graph, ids, root}
-use Rattle.egraph.specs.Answers.{Answer, Else, Unless3, count_says, id_says, flag, flag_says, head_of, never, nine, no_by, yes_with}
+use Rattle.egraph.specs.Answers.{Answer, Else, OpensKnown, Unless3, count_says, far_near, id_says, flag, flag_says, head_of, known_shut, never, nine, no_by, number_of, yes_with}
 use Rattle.egraph.specs.declared.Refusal.TheVariants.{BrokenWords}
 use Rattle.holds.specs.Holds.{Holds}
 use Rattle.holds.specs.HoldsLaws.{holds_in}
@@ -42,6 +42,9 @@ FindSays ws i r =
     Unless3 ws (id_says r ≡ no_by 3)
     (Else ((head_of ws).ids ≤ i) (id_says r ≡ no_by 4) (i < (head_of ws).ids)
     (FindOpen ws i r))
+
+pub find_shut : (ws : List ℕ) (i : ℕ) (r : Result Head Refusal) → OpensKnown ws i r → (q : Refusal) → r ≡ Err q → FindSays ws i (Err q)
+find_shut ws i r O q e = known_shut ws i r O (λ (k : ℕ). no_by (number_of q) ≡ no_by k) (λ l. l) (far_near i (head_of ws).ids) q e refl
 
 -- what the forest answers on words that hold a graph
 pub found_root : (ws : List ℕ) (h : Head) → HeadIs (length ws) (hd ws) h → (i : ℕ) (r : Result ℕ Broken) → Finds (view h.n h.m ws).forest h.ids i r

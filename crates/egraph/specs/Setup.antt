@@ -1,13 +1,12 @@
 -- What `setup` promises: 1 and 2 exactly when document 01 says, with nothing changed; else words that hold the fresh graph.
 -- Assumes nothing.
 use Rattle.egraph.specs.declared.Refusal.{Refusal}
-use Rattle.std.specs.Prelude.{Err, Ok, Result, List, [], ◌≡◌, refl, ◌*◌, ◌<◌, ◌≤◌, ℕ, drop, length}
+use Rattle.std.specs.Prelude.{Err, Ok, Result, List, [], ◌≡◌, refl, ◌*◌, ◌<◌, ◌≤◌, ℕ, drop, length, SomeIff, None, Some, Option}
 use Rattle.std.proofs.Common.{◌∙◌, ap, subst, sym}
 use Rattle.std.proofs.lemmas.Bool.{false≢true}
 use native.Mathlib.Omega.{arith}
 use Rattle.std.proofs.Math.Dec.{T}
 use Rattle.std.proofs.Math.ListN.{replicate}
-use Rattle.lists.specs.Options.{none≢some}
 use Rattle.steps.specs.Graph.{kept}
 use Rattle.steps.specs.Machine.{fresh}
 use Rattle.cells.specs.Empty.{Cleared, cleared_pool}
@@ -28,11 +27,30 @@ use Rattle.rows.specs.Determined.{rows_none}
 use Rattle.rows.specs.Rows.{size}
 use Rattle.table.specs.Keys.{not_held_none, table_none}
 use Rattle.unionfind.specs.Forest.{forest_none}
+use Rattle.std.proofs.lemmas.Option.{none-some}
+use Rattle.std.specs.Option.{ok_or}
+use Rattle.broken.specs.Words.{err≢ok}
 
 pub record Limits (n m : ℕ) : Type 0 where
   pub n_low : 1 ≤ n
   pub n_high : n ≤ 65536
   pub m_high : m ≤ 262144
+
+-- the words that the limits need, with the refusal of limits that are out of range
+module _ (n m : ℕ) (o : Option ℕ) (W : SomeIff o ((1 ≤ n) × (n ≤ 65536) × (m ≤ 262144)) (need n m)) (r : Result ℕ Refusal) (e : r ≡ ok_or o BadLimits) where
+  pub limits_bad : (q : Refusal) → r ≡ Err q → (q ≡ BadLimits) × (Limits n m → ⊥)
+  limits_bad q p = go o W (sym e ∙ p)
+    where
+      go : (o : Option ℕ) → SomeIff o ((1 ≤ n) × (n ≤ 65536) × (m ≤ 262144)) (need n m) → ok_or o BadLimits ≡ Err q → (q ≡ BadLimits) × (Limits n m → ⊥)
+      go None w p = (cc, λ l. w (l.n_low, l.n_high, l.m_high))
+      go (Some k) w p = err≢ok (sym p)
+
+  pub limits_good : (k : ℕ) → r ≡ Ok k → Limits n m × (k ≡ need n m)
+  limits_good k p = go o W (sym e ∙ p)
+    where
+      go : (o : Option ℕ) → SomeIff o ((1 ≤ n) × (n ≤ 65536) × (m ≤ 262144)) (need n m) → ok_or o BadLimits ≡ Ok k → Limits n m × (k ≡ need n m)
+      go None w p = err≢ok p
+      go (Some j) w p = let same : j ≡ k = cc in (record { n_low = w.0.0; n_high = w.0.1; m_high = w.0.2 }, sym same ∙ w.1)
 
 pub record SetupOpen (ws : List ℕ) (n m : ℕ) (r : Result Unit Refusal) (ws' : List ℕ) : Type 0 where
   pub done : setup_says r ≡ yes_with []
@@ -68,7 +86,7 @@ module _ (n m : ℕ) (v : View) (l : Limits n m) (rl : length v.rows ≡ size n 
       rows = rows_none v.rows n m rl;
       buckets = replicate n [];
       table = table_none v.table ts n T;
-      found = λ k i live e. absurd (none≢some e);
+      found = λ k i live e. absurd (none-some _ e);
       only = λ k i live h e. absurd (not_held_none n i h);
     };
     parents = parents_fresh n m us v.owners v.pending (cleared_pool v.uses us n m U);

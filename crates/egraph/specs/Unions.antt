@@ -2,13 +2,13 @@
 -- left is 9, which never comes on words that hold a graph.
 -- Assumes nothing.
 use Rattle.egraph.specs.declared.Refusal.{Refusal}
-use Rattle.std.specs.Prelude.{Err, Ok, Result, Bool, false, true, List, ◌⊎◌, ◌≡◌, ◌<◌, ◌≤◌, ℕ, length}
+use Rattle.std.specs.Prelude.{Err, Ok, Result, Bool, false, true, List, ◌⊎◌, ◌≡◌, refl, ◌<◌, ◌≤◌, ℕ, length}
 use Rattle.broken.specs.declared.Broken.{Broken}
 use Rattle.broken.specs.Words.{apart, broken}
 use Rattle.std.proofs.Common.{inl, inr, ◌∙◌, ap, sym, arith}
 use Rattle.steps.specs.Graph.{Graph}
 use Rattle.steps.specs.Machine.{union}
-use Rattle.egraph.specs.Answers.{Else, SameCounts, SameLimits, Unless3, counts_stay, counts_written, flag, head_of, limits_stay, limits_written, never, nine, no_by, ok_still, past, past_rest, scratch_of, scratch_still, spare_noted, spare_of, spare_stay, flag_says, written_back, yes_with}
+use Rattle.egraph.specs.Answers.{Else, OpensKnown, SameCounts, SameLimits, Unless3, counts_stay, counts_written, flag, head_of, known_shut, limits_stay, limits_written, never, nine, no_by, number_of, ok_still, past, past_rest, scratch_of, scratch_still, spare_noted, spare_of, spare_stay, flag_says, written_back, yes_with}
 use Rattle.egraph.specs.declared.Refusal.TheVariants.{BrokenWords}
 use Rattle.holds.specs.Holds.{Holds, HoldsAt}
 use Rattle.holds.specs.HoldsLaws.{holds_in}
@@ -39,6 +39,11 @@ UnionSays ws i j r ws' =
 pub far_or_near : (i j k : ℕ) → (k ≤ i) ⊎ (k ≤ j) → (i < k) × (j < k) → ⊥
 far_or_near i j k (inl h) g = omega arith
 far_or_near i j k (inr h) g = omega arith
+
+-- where one of the two is refused, no word changes
+pub union_shut : (ws : List ℕ) (i j k : ℕ) (r : Result Head Refusal) → OpensKnown ws k r → ((head_of ws).ids ≤ k → ((head_of ws).ids ≤ i) ⊎ ((head_of ws).ids ≤ j))
+    → (q : Refusal) → r ≡ Err q → UnionSays ws i j (Err q) ws
+union_shut ws i j k r O far q e = known_shut ws k r O (λ (x : ℕ). (no_by (number_of q) ≡ no_by x) × (ws ≡ ws)) far (far_or_near i j (head_of ws).ids) q e (refl, refl)
 
 -- ---- how the returns of the code stand
 

@@ -21,15 +21,7 @@ fn set_up(ws: &mut [u32], n: usize, m: usize)
     requires m_in_bounds { need n m ≤ length ws.old }
     ensures { SetupOpen ws.old n m (Ok tt) ws.new }
 {
-    let h = Head {
-        n,
-        m,
-        ids: 0,
-        places: 0,
-        depth: 0,
-        classes: 0,
-        clean: false,
-    };
+    let h = Head::fresh(n, m);
     let mut g = GraphMut { ws, h };
     empty_lists(&mut g);
     layout::clear_scratch(&mut g);
@@ -40,10 +32,8 @@ fn set_up(ws: &mut [u32], n: usize, m: usize)
 pub fn setup(ws: &mut [u32], n: usize, m: usize) -> Result<(), Refusal>
     ensures { SetupSays ws.old n m result ws.new }
 {
-    if !layout::limits_fit(n, m) {
-        return Err(Refusal::BadLimits);
-    }
-    if ws.len() < layout::need(n, m) {
+    let need = layout::words_for(n, m).ok_or(Refusal::BadLimits)?;
+    if ws.len() < need {
         return Err(Refusal::TooFewWords);
     }
     set_up(ws, n, m);

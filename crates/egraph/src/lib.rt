@@ -1,17 +1,17 @@
-// The graph: the open calls, over words that the caller lends. Each reads the head into a value, refuses bad input by number, works on the parts, and writes the head
-// back once. Names and argument order follow egg's `EGraph`; `&mut self` is the lent words.
+// The graph: the open calls, over words that the caller lends. Each reads the head into a value, refuses bad input by number, works on the parts, and writes
+// the head back once. Names and argument order follow egg's `EGraph`; `&mut self` is the lent words.
 //
 // A call answers `Ok` with its value, or `Err` with its refusal; specs/Answers.antt gives document 01's number and values for each answer.
 #![tactic(auto)]
 
 ghost use Rattle.std.specs.Prelude.{◌≡◌, ◌<◌};
-ghost use Rattle.egraph.specs.Answers.{Opens, give_refused, number_of};
+ghost use Rattle.egraph.specs.Answers.{AsGraph, Opens, OpensKnown, give_refused, number_of};
 ghost use Rattle.egraph.specs.declared.Refusal.TheVariants.{BrokenWords};
 
 use adding::GiveError;
 use broken::Broken;
 use language::Id;
-use layout::Head;
+use layout::{Graph, Head};
 use std::error::Error;
 use std::fmt;
 
@@ -40,17 +40,18 @@ impl Refusal {
 
 impl fmt::Display for Refusal {
     fn fmt<W: fmt::Write>(&self, f: &mut fmt::Formatter<W>) -> fmt::Result {
-        match self {
-            Refusal::BadLimits => write!(f, "1: the limits are out of range"),
-            Refusal::TooFewWords => write!(f, "2: the limits need more words"),
-            Refusal::BadHead => write!(f, "3: the words hold no graph"),
-            Refusal::UnknownId => write!(f, "4: an id is unknown"),
-            Refusal::TooManyChildren => write!(f, "5: a node has too many children"),
-            Refusal::NoRoom => write!(f, "6: there is no room for a new id"),
-            Refusal::NotRebuilt => write!(f, "7: the graph is not rebuilt"),
-            Refusal::TooLong => write!(f, "8: a list is longer than the slice lent for it"),
-            Refusal::BrokenWords => write!(f, "9: no calls could have left these words"),
-        }
+        let why = match self {
+            Refusal::BadLimits => "the limits are out of range",
+            Refusal::TooFewWords => "the limits need more words",
+            Refusal::BadHead => "the words hold no graph",
+            Refusal::UnknownId => "an id is unknown",
+            Refusal::TooManyChildren => "a node has too many children",
+            Refusal::NoRoom => "there is no room for a new id",
+            Refusal::NotRebuilt => "the graph is not rebuilt",
+            Refusal::TooLong => "a list is longer than the slice lent for it",
+            Refusal::BrokenWords => "no calls could have left these words",
+        };
+        write!(f, "{}: {why}", self.number())
     }
 }
 
@@ -82,11 +83,23 @@ fn read_head(ws: &[u32]) -> Result<Head, Refusal>
     layout::read_head(ws).ok_or(Refusal::BadHead)
 }
 
-// Where a walk over the nodes of a class stands, from the last back in node order: how many nodes are still to come, and an id that has the next of them.
-#[derive(Clone, Copy)]
-pub struct Cursor {
-    pub left: usize,
-    pub id: Id,
+// The words as a graph to be read.
+fn open(ws: &[u32]) -> Result<Graph<'_>, Refusal>
+    ensures { AsGraph (Opens ws.now) ws.now result }
+{
+    let h = read_head(ws)?;
+    Ok(Graph { ws, h })
+}
+
+// The words as a graph that knows the id.
+fn open_known(ws: &[u32], id: Id) -> Result<Graph<'_>, Refusal>
+    ensures { AsGraph (OpensKnown ws.now id.0) ws.now result }
+{
+    let g = open(ws)?;
+    if g.h.ids <= id.0 as usize {
+        return Err(Refusal::UnknownId);
+    }
+    Ok(g)
 }
 
 pub mod begin;
@@ -112,7 +125,7 @@ pub use class_lists::{classes, classes_for_op, total_number_of_nodes};
 // No open calls: what an extraction reads of a graph.
 pub mod class_reads;
 
-pub use class_reads::{class_nodes, previous, root_node};
+pub use class_reads::{ClassNodes, class_nodes, class_root, count_nodes, root_node};
 
 pub mod adds;
 

@@ -2,41 +2,30 @@
 // open call: it is `id_to_node` for those who answer a node as a list of words.
 ghost use Rattle.std.specs.Prelude.{◌<◌, ◌≤◌, length};
 ghost use Rattle.language.specs.Term.{spell};
-ghost use Rattle.layout.specs.Seen.{HeadStands, seen};
-ghost use Rattle.spelling.specs.Listed.{Listed};
+ghost use Rattle.layout.specs.Seen.{seen};
 ghost use Rattle.egraph.specs.Stored.{stored};
-ghost use Rattle.egraph.specs.Listing.{NodeOpen, NodeSays, NodeSpelled, RowWords, Measured, NodesOpen, NodesSays};
+ghost use Rattle.egraph.specs.Listing.{NodeSays, NodeSpelled, RowWords, Measured, NodesSays};
+ghost use Rattle.spelling.specs.Pieces.{Wrote};
 
-use super::{Refusal, read_head};
+use super::{Refusal, open, open_known};
 use language::{Id, Node};
 use layout::Graph;
-
-fn node_open(g: &Graph<'_>, id: Id) -> Result<Node, Refusal>
-    requires head_stands { HeadStands g.now }
-    requires id_lt_ids { id.0 < g.now.h.ids }
-    ensures { NodeOpen g.now.ws.now id.0 result }
-{
-    let node = parts::on_rows::given(g, id)?;
-    Ok(node)
-}
 
 // The node of an id, as it was given.
 pub fn id_to_node(ws: &[u32], id: Id) -> Result<Node, Refusal>
     ensures { NodeSays ws.now id.0 result }
 {
-    let h = read_head(ws)?;
-    if h.ids <= id.0 as usize {
-        return Err(Refusal::UnknownId);
-    }
-    node_open(&Graph { ws, h }, id)
+    let g = open_known(ws, id)?;
+    let given = parts::on_rows::given(&g, id)?;
+    Ok(given.node)
 }
 
 // The node of an id as words at the start of a list, how many these are, or why not. It is refused by 8 like the other lists, where the slice is too short.
 pub fn spell_node(ws: &[u32], id: Id, list: &mut [u32]) -> Result<usize, Refusal>
     ensures { NodeSpelled ws.now id.0 list.old result list.new }
 {
-    let node = id_to_node(ws, id)?;
-    spelling::spell_one(list, node).ok_or(Refusal::TooLong)
+    let fit = id_to_node(ws, id)?.fit().unwrap();
+    spelling::spell_one(list, fit).ok_or(Refusal::TooLong)
 }
 
 // How many words the node of an id takes.
@@ -44,8 +33,8 @@ fn row_words(g: &Graph<'_>, id: Id) -> Result<usize, Refusal>
     requires { id.0 < g.now.h.ids }
     ensures { RowWords (seen g.now).rows g.now.h.n g.now.h.m id.0 result }
 {
-    let node = parts::on_rows::given(g, id)?;
-    Ok(spelling::node_length(node))
+    let given = parts::on_rows::given(g, id)?;
+    Ok(spelling::node_length(given))
 }
 
 // How many words all stored nodes take, where no row is broken.
@@ -62,31 +51,25 @@ fn measure(g: &Graph<'_>) -> Result<usize, Refusal>
 // All stored nodes, one after the other.
 fn put_nodes(g: &Graph<'_>, out: &mut [u32]) -> usize
     requires { length (spell (stored (seen g.now).rows g.now.h.n g.now.h.m g.now.h.ids)) ≤ length out.old }
-    ensures { Listed out.old (stored (seen g.now).rows g.now.h.n g.now.h.m g.now.h.ids) result out.new }
+    ensures { Wrote out.old 0 (spell (stored (seen g.now).rows g.now.h.n g.now.h.m g.now.h.ids)) result out.new }
 {
     let mut at: usize = 0;
     for i in 0..g.h.ids {
-        let node = parts::on_rows::given_or_leaf(g, Id(i as u32));
-        at = spelling::put_node(out, at, node);
+        let given = parts::on_rows::given_or_leaf(g, Id(i as u32));
+        at = spelling::put_node(out, at, given);
     }
     at
 }
 
-fn nodes_open(g: &Graph<'_>, out: &mut [u32]) -> Result<usize, Refusal>
-    requires { HeadStands g.now }
-    ensures { NodesOpen g.now.ws.now out.old result out.new }
-{
-    let k = measure(g)?;
-    if out.len() < k {
-        return Err(Refusal::TooLong);
-    }
-    Ok(put_nodes(g, out))
-}
-
-// The stored nodes in id order, in words.
+// The stored nodes in id order, in words. No `Piece` of eclass says what these words are, though `list_pieces` has the same steps: the rows of a graph that is
+// not clean are listed too, whose walks over classes nothing has looked at.
 pub fn nodes(ws: &[u32], out: &mut [u32]) -> Result<usize, Refusal>
     ensures { NodesSays ws.now out.old result out.new }
 {
-    let h = read_head(ws)?;
-    nodes_open(&Graph { ws, h }, out)
+    let g = open(ws)?;
+    let k = measure(&g)?;
+    if out.len() < k {
+        return Err(Refusal::TooLong);
+    }
+    Ok(put_nodes(&g, out))
 }

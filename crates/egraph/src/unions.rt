@@ -4,7 +4,7 @@ ghost use Rattle.layout.specs.View.{hd};
 ghost use Rattle.layout.specs.Did.{SameLoan, HeadStood};
 ghost use Rattle.egraph.specs.Unions.{UnionOpen, UnionSays};
 
-use super::{Refusal, read_head};
+use super::{Refusal, open_known};
 use language::Id;
 use layout::GraphMut;
 
@@ -24,12 +24,7 @@ fn union_open(g: &mut GraphMut<'_>, id1: Id, id2: Id) -> Result<bool, Refusal>
 pub fn union(ws: &mut [u32], id1: Id, id2: Id) -> Result<bool, Refusal>
     ensures { UnionSays ws.old id1.0 id2.0 result ws.new }
 {
-    let h = read_head(ws)?;
-    if h.ids <= id1.0 as usize {
-        return Err(Refusal::UnknownId);
-    }
-    if h.ids <= id2.0 as usize {
-        return Err(Refusal::UnknownId);
-    }
+    open_known(ws, id1)?;
+    let h = open_known(ws, id2)?.h;
     union_open(&mut GraphMut { ws, h }, id1, id2)
 }

@@ -1,16 +1,15 @@
 -- What `find_best_cost` promises: no word changes, whatever it answers. 3, 4 and 7 come exactly when document 01 says; the only number left is 9, and on words that hold
 -- a graph the answer is the price of the id's class in the table that the passes leave.
 -- Assumes nothing.
-use Rattle.std.specs.Prelude.{Err, None, Ok, Option, Result, Some, true, List, [], ◌∷◌, ◌≡◌, refl, ℕ}
+use Rattle.std.specs.Prelude.{Err, None, Ok, Option, Result, Some, List, [], ◌∷◌, ◌≡◌, refl, ℕ}
 use Rattle.broken.specs.declared.Broken.{Broken}
-use Rattle.broken.specs.Words.{broken, err≢ok}
+use Rattle.broken.specs.Words.{err≢ok}
 use Rattle.std.proofs.Common.{◌∙◌, ap, sym}
 use Rattle.steps.specs.Graph.{Graph, root}
 use Rattle.egraph.specs.Answers.{Answer, count_says, never, nine, no_by, yes_with}
 use Rattle.egraph.specs.ClassLists.{its_clean}
-use Rattle.egraph.specs.ClassReads.{KidsKnown}
+use Rattle.egraph.specs.ClassReads.{AtRest, KidsKnown, at_rest}
 use Rattle.egraph.specs.declared.Refusal.{Refusal}
-use Rattle.egraph.specs.declared.Refusal.TheVariants.{BrokenWords}
 use Rattle.holds.specs.Holds.{Holds}
 use Rattle.layout.specs.View.{view}
 use Rattle.layout.specs.declared.Head.{Head}
@@ -40,18 +39,11 @@ pub record CostSays (ws : List ℕ) (i : ℕ) (r : Result ℕ Refusal) (ws' : Li
 pub record WorksOut (h : Head) (i : ℕ) (ws : List ℕ) (r : Result ℕ Refusal) (ws' : List ℕ) : Type 0 where
   pub only : Scratched h.n h.m ws ws'
   pub fair : (k : ℕ) → count_says r ≡ no_by k → k ≡ 9
-  pub sound : (g : Graph) → Holds ws g → g.clean ≡ true → KidsKnown g → count_says r ≡ price_says (cost_of g i)
+  pub sound : (g : Graph) → AtRest h (view h.n h.m ws) g → count_says r ≡ price_says (cost_of g i)
 
 module _ (h : Head) (i : ℕ) (ws ws1 : List ℕ) (p : Result Priced Broken) (P : PricesClass h i ws p ws1) where
-  pub work_broken : p ≡ broken → WorksOut h i ws (Err BrokenWords) ws1
-  work_broken e = record { only = P.only; fair = nine; sound = λ g H c K. go g (cost_of g i) (P.law g H c K) }
-    where
-      go : (g : Graph) (o : Option (Best ℕ)) → PricedAs h g i p (view h.n h.m ws1).scratch o → ◌≡◌ {A = Answer} (no_by 9) (price_says o)
-      go g None A = refl
-      go g (Some b) A = err≢ok (sym e ∙ A.0)
-
   pub work_done : (y : Priced) → p ≡ Ok y → WorksOut h i ws (Ok y.size) ws1
-  work_done y e = record { only = P.only; fair = λ k q. absurd (never k y.size q); sound = λ g H l K. go g (cost_of g i) (P.law g H l K) }
+  work_done y e = record { only = P.only; fair = λ k q. absurd (never k y.size q); sound = λ g R. go g (cost_of g i) (P.law g R) }
     where
       go : (g : Graph) (o : Option (Best ℕ)) → PricedAs h g i p (view h.n h.m ws1).scratch o → ◌≡◌ {A = Answer} (yes_with (y.size ∷ [])) (price_says o)
       go g None A = err≢ok (sym A ∙ e)
@@ -76,5 +68,5 @@ module _ (ws : List ℕ) (i : ℕ) where
     same = scratch_back F.clear W.only Z;
     says =
         let_through (λ (k : ℕ). count_says r ≡ no_by k) ws i h F
-        (record { fair = W.fair; sound = λ g H K. W.sound g H (its_clean ws h F.head_is F.clean g H) K });
+        (record { fair = W.fair; sound = λ g H K. W.sound g (at_rest ws h g F.head_is H (its_clean ws h F.head_is F.clean g H) K) });
   }

@@ -2,7 +2,7 @@
 -- every refusal leaves the slice as it was. On words that hold a graph 8 comes exactly when the form is longer than the slice, and else the answer is the price of the
 -- id's class, with the words of its listing at the start of the slice and nothing changed behind them.
 -- Assumes nothing.
-use Rattle.std.specs.Prelude.{Err, None, Ok, Option, Result, Some, true, List, [], ◌∷◌, ◌⊎◌, ◌≡◌, refl, ◌+◌, ◌<◌, ◌≤◌, ℕ, drop, length, take}
+use Rattle.std.specs.Prelude.{Err, None, Ok, Option, Result, Some, List, [], ◌∷◌, ◌⊎◌, ◌≡◌, refl, ◌+◌, ◌<◌, ◌≤◌, ℕ, drop, length, take}
 use Rattle.broken.specs.declared.Broken.{Broken}
 use Rattle.broken.specs.Words.{broken, err≢ok}
 use Rattle.std.proofs.Common.{inl, inr, ◌∙◌, ap, subst, sym, zero-add, arith}
@@ -11,7 +11,7 @@ use Rattle.steps.specs.Classes.{class_nodes, class_roots}
 use Rattle.steps.specs.Graph.{Graph, root}
 use Rattle.egraph.specs.Answers.{Answer, never, nine, no_by, says, yes_with}
 use Rattle.egraph.specs.ClassLists.{its_clean}
-use Rattle.egraph.specs.ClassReads.{Classed, KidsKnown, classed, classed_lent, classed_listed}
+use Rattle.egraph.specs.ClassReads.{AtRest, Classed, KidsKnown, at_rest, classed_lent, classed_listed}
 use Rattle.egraph.specs.declared.Refusal.{Refusal}
 use Rattle.egraph.specs.declared.Refusal.TheVariants.{BrokenWords, TooLong}
 use Rattle.spelling.specs.Pieces.{Wrote, pieces}
@@ -20,9 +20,8 @@ use Rattle.forming.specs.FormNode.{form_piece}
 use Rattle.forming.specs.Kept.{Kept, cheapest_kept}
 use Rattle.holds.specs.Holds.{Holds}
 use Rattle.layout.specs.Cut.{scratch}
-use Rattle.layout.specs.Head.{HeadIs}
 use Rattle.layout.specs.Lent.{Lent, lent_map, lent_twice}
-use Rattle.layout.specs.View.{View, hd, view}
+use Rattle.layout.specs.View.{View, view}
 use Rattle.layout.specs.declared.Head.{Head}
 use Rattle.price.specs.Chosen.{backed, ranked}
 use Rattle.price.specs.Extract.{listing, table}
@@ -98,14 +97,14 @@ InScratch n m ws ws' = Lent scratch n m (λ s s'. Unit {0}) ws ws'
 pub record ListsOut (h : Head) (i : ℕ) (ws : List ℕ) (r : Result Outline Broken) (ws' : List ℕ) : Type 0 where
   pub only : InScratch h.n h.m ws ws'
   pub few : (o : Outline) → r ≡ Ok o → o.listed ≤ h.n
-  pub law : (g : Graph) → Holds ws g → g.clean ≡ true → KidsKnown g → OutlinedAs h g i r (view h.n h.m ws') (cost_of g i)
+  pub law : (g : Graph) → AtRest h (view h.n h.m ws) g → OutlinedAs h g i r (view h.n h.m ws') (cost_of g i)
 
-module _ (h : Head) (i : ℕ) (ws ws1 : List ℕ) (q : HeadIs (length ws) (hd ws) h) (p : Result Priced Broken) (P : PricesClass h i ws p ws1) where
+module _ (h : Head) (i : ℕ) (ws ws1 : List ℕ) (p : Result Priced Broken) (P : PricesClass h i ws p ws1) where
   pub list_unpriced : p ≡ broken → ListsOut h i ws broken ws1
   list_unpriced e = record {
     only = lent_map (λ s s' z. tt) P.only;
     few = λ t z. err≢ok z;
-    law = λ g H c K. go g (cost_of g i) (P.law g H c K);
+    law = λ g R. go g (cost_of g i) (P.law g R);
   }
     where
       go : (g : Graph) (o : Option (Best ℕ)) → PricedAs h g i p (view h.n h.m ws1).scratch o → OutlinedAs h g i broken (view h.n h.m ws1) o
@@ -117,12 +116,12 @@ module _ (h : Head) (i : ℕ) (ws ws1 : List ℕ) (q : HeadIs (length ws) (hd ws
     both = lent_twice (λ x y z u v. tt) P.only L.only
 
     -- the listing, where the class has a price
-    laid_out : (g : Graph) → Holds ws g → g.clean ≡ true → KidsKnown g → (b : Best ℕ) → PricedAs h g i p (view h.n h.m ws1).scratch (Some b)
+    laid_out : (g : Graph) → AtRest h (view h.n h.m ws) g → (b : Best ℕ) → PricedAs h g i p (view h.n h.m ws1).scratch (Some b)
         → FormLaid h g (table AstSize g) (listing g (table AstSize g) (root g.roots i)) o (view h.n h.m ws2).scratch
-    laid_out g H l K b A =
+    laid_out g R b A =
         let same : y ≡ record { root = record { 0 = root g.roots i }; size = b.price } = cc (e, A.0) in
         let z : y.root.0 ≡ root g.roots i = ap (λ (x : Priced). x.root.0) same in
-        let C : Classed h (view h.n h.m ws1) g = classed_lent P.only (classed ws h g q H l K) in
+        let C : Classed h (view h.n h.m ws1) g = classed_lent P.only R.classes in
         subst (λ (x : ℕ). FormLaid h g (table AstSize g) (listing g (table AstSize g) x) o (view h.n h.m ws2).scratch) z
         (L.law g C (subst (λ (x : ℕ). Ready h g x (view h.n h.m ws1).scratch) (sym z) A.1))
 
@@ -130,27 +129,27 @@ module _ (h : Head) (i : ℕ) (ws ws1 : List ℕ) (q : HeadIs (length ws) (hd ws
     list_broken w = record {
       only = both;
       few = λ t z. err≢ok z;
-      law = λ g H l K. go g H l K (cost_of g i) (P.law g H l K);
+      law = λ g R. go g R (cost_of g i) (P.law g R);
     }
       where
-        go : (g : Graph) → Holds ws g → g.clean ≡ true → KidsKnown g → (m : Option (Best ℕ)) → PricedAs h g i p (view h.n h.m ws1).scratch m
+        go : (g : Graph) → AtRest h (view h.n h.m ws) g → (m : Option (Best ℕ)) → PricedAs h g i p (view h.n h.m ws1).scratch m
             → OutlinedAs h g i broken (view h.n h.m ws2) m
-        go g H l K None A = refl
-        go g H l K (Some b) A = err≢ok (sym w ∙ (laid_out g H l K b A).is)
+        go g R None A = refl
+        go g R (Some b) A = err≢ok (sym w ∙ (laid_out g R b A).is)
 
     pub list_done : (k : ℕ) → o ≡ Ok k → ListsOut h i ws (Ok (record { size = y.size; listed = k })) ws2
     list_done k w = record {
       only = both;
       few = λ t z. let same : record { size = y.size; listed = k } ≡ t = cc in rw (← same) (L.few k w);
-      law = λ g H l K. go g H l K (cost_of g i) refl (P.law g H l K);
+      law = λ g R. go g R (cost_of g i) refl (P.law g R);
     }
       where
-        go : (g : Graph) → Holds ws g → g.clean ≡ true → KidsKnown g → (m : Option (Best ℕ)) → cost_of g i ≡ m → PricedAs h g i p (view h.n h.m ws1).scratch m
+        go : (g : Graph) → AtRest h (view h.n h.m ws) g → (m : Option (Best ℕ)) → cost_of g i ≡ m → PricedAs h g i p (view h.n h.m ws1).scratch m
             → OutlinedAs h g i (Ok (record { size = y.size; listed = k })) (view h.n h.m ws2) m
-        go g H l K None u A = err≢ok (sym A ∙ e)
-        go g H l K (Some b) u A =
-            let F = laid_out g H l K b A in
-            let C : Classed h (view h.n h.m ws2) g = classed_lent both (classed ws h g q H l K) in
+        go g R None u A = err≢ok (sym A ∙ e)
+        go g R (Some b) u A =
+            let F = laid_out g R b A in
+            let C : Classed h (view h.n h.m ws2) g = classed_lent both R.classes in
             let same : y ≡ record { root = record { 0 = root g.roots i }; size = b.price } = cc (e, A.0) in
             let x : y.size ≡ b.price = ap (λ (u : Priced). u.size) same in
             let z : k ≡ length (listing g (table AstSize g) (root g.roots i)) = cc (w, F.is) in
@@ -232,11 +231,11 @@ module _ (h : Head) (s k : ℕ) (ws out : List ℕ) (few : h.ids ≤ h.n) where
 pub record FormsOut (h : Head) (i : ℕ) (ws out : List ℕ) (r : Result Form Refusal) (ws' out' : List ℕ) : Type 0 where
   pub only : InScratch h.n h.m ws ws'
   pub fair : FormFair out r out'
-  pub sound : (g : Graph) → Holds ws g → g.clean ≡ true → KidsKnown g → FormAs (form_of g i) out r out' (cost_of g i)
+  pub sound : (g : Graph) → AtRest h (view h.n h.m ws) g → FormAs (form_of g i) out r out' (cost_of g i)
 
 module _ (h : Head) (i : ℕ) (ws ws1 out : List ℕ) (o : Result Outline Broken) (L : ListsOut h i ws o ws1) where
   pub out_broken : o ≡ broken → FormsOut h i ws out (Err BrokenWords) ws1 out
-  out_broken e = record { only = L.only; fair = fair_nine out; sound = λ g H c K. go g (cost_of g i) (L.law g H c K) }
+  out_broken e = record { only = L.only; fair = fair_nine out; sound = λ g R. go g (cost_of g i) (L.law g R) }
     where
       go : (g : Graph) (m : Option (Best ℕ)) → OutlinedAs h g i o (view h.n h.m ws1) m → FormAs (form_of g i) out (Err BrokenWords) out m
       go g None A = (refl, refl)
@@ -244,7 +243,7 @@ module _ (h : Head) (i : ℕ) (ws ws1 out : List ℕ) (o : Result Outline Broken
 
   pub out_done : (y : Outline) → o ≡ Ok y → (r : Result Form Refusal) (out' : List ℕ) → WritesOut h y.size y.listed ws1 out r out'
       → FormsOut h i ws out r ws1 out'
-  out_done y e r out' W = record { only = L.only; fair = W.fair; sound = λ g H c K. go g (cost_of g i) (L.law g H c K) }
+  out_done y e r out' W = record { only = L.only; fair = W.fair; sound = λ g R. go g (cost_of g i) (L.law g R) }
     where
       go : (g : Graph) (m : Option (Best ℕ)) → OutlinedAs h g i o (view h.n h.m ws1) m → FormAs (form_of g i) out r out' m
       go g None A = err≢ok (sym A ∙ e)
@@ -270,5 +269,5 @@ module _ (ws : List ℕ) (i : ℕ) (out : List ℕ) where
   form_done h F r ws1 ws2 out' W Z = record {
     same = scratch_back F.clear W.only Z;
     inside = W.fair.inside;
-    says = let_through (FormNo out r out') ws i h F (record { fair = W.fair; sound = λ g H K. W.sound g H (its_clean ws h F.head_is F.clean g H) K });
+    says = let_through (FormNo out r out') ws i h F (record { fair = W.fair; sound = λ g H K. W.sound g (at_rest ws h g F.head_is H (its_clean ws h F.head_is F.clean g H) K) });
   }

@@ -1,20 +1,15 @@
 -- The class of an id and its price, with the prices of all classes left in the scratch part: what the two calls of this crate begin with. `price_class` promises that it
 -- writes prices and marks alone, and that on words that hold a clean graph it answers the price in the table that the passes leave, with all in place for a walk.
 -- Assumes nothing.
-use Rattle.std.specs.Prelude.{Err, None, Ok, Option, Result, Some, true, List, [], ◌∷◌, ◌≡◌, refl, ◌<◌, ◌≤◌, ℕ, length}
+use Rattle.std.specs.Prelude.{None, Ok, Option, Result, Some, List, ◌≡◌, refl, ◌<◌, ℕ}
 use Rattle.broken.specs.declared.Broken.{Broken}
 use Rattle.broken.specs.Words.{apart, broken, err≢ok}
-use Rattle.std.proofs.Common.{◌∙◌, ap, sym, arith}
+use Rattle.std.proofs.Common.{◌∙◌, ap, arith}
 use Rattle.language.specs.declared.Id.{Id}
 use Rattle.steps.specs.Graph.{Graph, root}
-use Rattle.egraph.specs.Answers.{Answer, id_says, ids_is, never, number_of, yes_with}
-use Rattle.egraph.specs.ClassReads.{KidsKnown, classed, classed_ids, classed_root}
-use Rattle.egraph.specs.Reads.{FindSays}
-use Rattle.egraph.specs.declared.Refusal.{Refusal}
-use Rattle.holds.specs.Holds.{Holds}
-use Rattle.layout.specs.Head.{HeadIs, head_good}
+use Rattle.egraph.specs.ClassReads.{AtRest, ClassRoot, classed_ids}
 use Rattle.layout.specs.Idle.{lent_same}
-use Rattle.layout.specs.View.{hd, view}
+use Rattle.layout.specs.View.{view}
 use Rattle.layout.specs.declared.Head.{Head}
 use Rattle.price.specs.Extract.{table}
 use Rattle.price.specs.Pass.{Best, look}
@@ -38,41 +33,28 @@ PricedAs h g i r ss (Some b) = (r ≡ Ok (record { root = (record { 0 = root g.r
 pub record PricesClass (h : Head) (i : ℕ) (ws : List ℕ) (r : Result Priced Broken) (ws' : List ℕ) : Type 0 where
   pub only : Scratched h.n h.m ws ws'
   pub low : (y : Priced) → r ≡ Ok y → y.root.0 < h.n
-  pub law : (g : Graph) → Holds ws g → g.clean ≡ true → KidsKnown g → PricedAs h g i r (view h.n h.m ws').scratch (cost_of g i)
+  pub law : (g : Graph) → AtRest h (view h.n h.m ws) g → PricedAs h g i r (view h.n h.m ws').scratch (cost_of g i)
 
-module _ (h : Head) (i : ℕ) (ws : List ℕ) (q : HeadIs (length ws) (hd ws) h) (hi : i < h.ids) (f : Result Id Refusal) (F : FindSays ws i f) where
-  -- what `find` answers on words that hold a graph
-  found : (g : Graph) → Holds ws g → id_says f ≡ yes_with (root g.roots i ∷ [])
-  found g H = ((F.on (head_good q)).on (omega (arith, ids_is q))).sound g H
+module _ (h : Head) (i : ℕ) (ws : List ℕ) (hi : i < h.ids) (f : Result Id Broken) (F : ClassRoot h (view h.n h.m ws) i f) where
+  -- the root on words that hold a clean graph
+  found : (g : Graph) → AtRest h (view h.n h.m ws) g → f ≡ Ok (record { 0 = root g.roots i })
+  found g R = F.sound g R.classes (omega (arith, classed_ids R.classes))
 
-  not_found : (k : Refusal) → f ≡ Err k → (g : Graph) → Holds ws g → ⊥
-  not_found k e g H = never (number_of k) (root g.roots i) (sym (found g H) ∙ ap id_says e)
-
-  pub price_lost : (k : Refusal) → f ≡ Err k → PricesClass h i ws broken ws
-  price_lost k e = record { only = lent_same ws (λ j l. refl); low = λ p z. err≢ok z; law = λ g H c K. absurd (not_found k e g H) }
+  pub price_lost : f ≡ broken → PricesClass h i ws broken ws
+  price_lost e = record { only = lent_same ws (λ j l. refl); low = λ p z. err≢ok z; law = λ g R. apart e (found g R) }
 
   module _ (x : Id) (e : f ≡ Ok x) where
-    root_is : (g : Graph) → Holds ws g → x.0 ≡ root g.roots i
-    root_is g H = let w : ◌≡◌ {A = List ℕ} (x.0 ∷ []) (root g.roots i ∷ []) = ap (λ (a : Answer). a.values) (ap id_says (sym e) ∙ found g H) in cc w
-
-    pub price_stray : h.ids ≤ x.0 → PricesClass h i ws broken ws
-    price_stray off = record {
-      only = lent_same ws (λ j l. refl);
-      low = λ p z. err≢ok z;
-      law = λ g H c K. let C = classed ws h g q H c K in absurd (omega (arith, root_is g H, classed_root C i (omega (arith, classed_ids C))));
-    }
+    root_is : (g : Graph) → AtRest h (view h.n h.m ws) g → x.0 ≡ root g.roots i
+    root_is g R = let w : x ≡ record { 0 = root g.roots i } = cc (e, found g R) in ap (λ (y : Id). y.0) w
 
     module _ (ws1 : List ℕ) (o : Result Unit Broken) (C : FindsCosts h ws o ws1) where
-      pub price_broken : o ≡ broken → PricesClass h i ws broken ws1
-      price_broken b = record { only = C.only; low = λ p z. err≢ok z; law = λ g H c K. apart b (C.law g H c K).0 }
-
       module _ (y : Option Entry) (lt : x.0 < h.n) (E : EntryAt h.n (view h.n h.m ws1).scratch x.0 y) where
         -- the entry of the id's class
-        entry_is : (g : Graph) → Holds ws g → g.clean ≡ true → KidsKnown g → Means g y (cost_of g i)
-        entry_is g H c K = rw (← root_is g H) (entry_as g h.n (view h.n h.m ws1).scratch (table AstSize g) x.0 y (C.law g H c K).1 lt E)
+        entry_is : (g : Graph) → AtRest h (view h.n h.m ws) g → Means g y (cost_of g i)
+        entry_is g R = rw (← root_is g R) (entry_as g h.n (view h.n h.m ws1).scratch (table AstSize g) x.0 y (C.law g R).1 lt E)
 
         pub price_none : y ≡ None → PricesClass h i ws broken ws1
-        price_none z = record { only = C.only; low = λ p w. err≢ok w; law = λ g H c K. go g (cost_of g i) (rw z at (entry_is g H c K)) }
+        price_none z = record { only = C.only; low = λ p w. err≢ok w; law = λ g R. go g (cost_of g i) (rw z at (entry_is g R)) }
           where
             go : (g : Graph) (o : Option (Best ℕ)) → Means g None o → PricedAs h g i broken (view h.n h.m ws1).scratch o
             go g None M = refl
@@ -82,14 +64,14 @@ module _ (h : Head) (i : ℕ) (ws : List ℕ) (q : HeadIs (length ws) (hd ws) h)
         price_done e s = record {
           only = C.only;
           low = λ p w. let z : record { root = x; size = e.price } ≡ p = cc in rw (← z) lt;
-          law = λ g H c K. go g H c K (cost_of g i) refl (rw s at (entry_is g H c K));
+          law = λ g R. go g R (cost_of g i) refl (rw s at (entry_is g R));
         }
           where
-            go : (g : Graph) → Holds ws g → g.clean ≡ true → KidsKnown g → (o : Option (Best ℕ)) → cost_of g i ≡ o → Means g (Some e) o
+            go : (g : Graph) → AtRest h (view h.n h.m ws) g → (o : Option (Best ℕ)) → cost_of g i ≡ o → Means g (Some e) o
                 → PricedAs h g i (Ok (record { root = x; size = e.price })) (view h.n h.m ws1).scratch o
-            go g H c K None w M = absurd M
-            go g H c K (Some b) w M = (
-              ap (λ (k : ℕ). (Ok (record { root = (record { 0 = k }); size = e.price }))) (root_is g H)
+            go g R None w M = absurd M
+            go g R (Some b) w M = (
+              ap (λ (k : ℕ). (Ok (record { root = (record { 0 = k }); size = e.price }))) (root_is g R)
                   ∙ ap (λ (p : ℕ). (Ok (record { root = (record { 0 = root g.roots i }); size = p }))) M.price_is,
-              ready h ws ws1 o q C g H c K (root g.roots i) b w,
+              ready h ws ws1 o C g R (root g.roots i) b w,
             )

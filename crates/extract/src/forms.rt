@@ -1,8 +1,7 @@
-// Cheapest forms: `find_best`, the least AstSize of the class of an id with a form that has it, in words. The prices are worked out as for a size, the form is listed by
-// them in the scratch part (walking), measured, and written from there into the slice that the caller lends (forming).
+// Cheapest forms: `find_best`, the least AstSize of the class of an id with a form that has it, in words. The prices are worked out as for a size, the form
+// is listed by them in the scratch part (walking), measured, and written from there into the slice that the caller lends (forming).
 ghost use Rattle.std.specs.Prelude.{◌<◌, ◌≤◌, length};
-ghost use Rattle.layout.specs.Seen.{HeadStands};
-ghost use Rattle.layout.specs.Did.{Did, HeadStood};
+ghost use Rattle.layout.specs.Did.{Did};
 ghost use Rattle.layout.specs.View.{hd};
 ghost use Rattle.extract.specs.Form.{FormSays, FormsOut, ListsOut, WritesOut};
 
@@ -21,8 +20,7 @@ struct Outline {
 
 // The prices and the listing of the class of an id, from a scratch part that is 0.
 fn list_out(g: &mut GraphMut<'_>, id: Id) -> Result<Outline, Broken>
-    requires head_is { HeadStood g.old }
-    requires id_lt_ids { id.0 < g.old.h.ids }
+    requires { id.0 < g.old.h.ids }
     ensures { Did (λ ws ws'. ListsOut g.old.h id.0 ws result ws') g.old g.new }
 {
     let class = price_class(g, id)?;
@@ -35,8 +33,7 @@ fn list_out(g: &mut GraphMut<'_>, id: Id) -> Result<Outline, Broken>
 
 // The form of the listed classes, measured, and written if the slice has room.
 fn write_out(g: &Graph<'_>, at: Outline, out: &mut [u32]) -> Result<Form, Refusal>
-    requires head_stands { HeadStands g.now }
-    requires listed_le_n { at.listed ≤ g.now.h.n }
+    requires { at.listed ≤ g.now.h.n }
     ensures { WritesOut g.now.h at.size at.listed g.now.ws.now out.old result out.new }
 {
     let length = forming::measure_form(g, at.listed)?;
@@ -52,8 +49,7 @@ fn write_out(g: &Graph<'_>, at: Outline, out: &mut [u32]) -> Result<Form, Refusa
 
 // The size and the form of the class of an id, from a scratch part that is 0, and is left with the prices and the listing.
 fn form_out(g: &mut GraphMut<'_>, id: Id, out: &mut [u32]) -> Result<Form, Refusal>
-    requires head_is { HeadStood g.old }
-    requires id_lt_ids { id.0 < g.old.h.ids }
+    requires { id.0 < g.old.h.ids }
     ensures { Did (λ ws ws'. FormsOut g.old.h id.0 ws out.old result ws' out.new) g.old g.new }
 {
     let outline = list_out(g, id)?;

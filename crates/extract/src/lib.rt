@@ -1,9 +1,10 @@
-// Sizes of classes and cheapest forms, with AstSize: egg's `Extractor` over words that the caller lends. The graph is read through its promises: the head, the root that `find` answers,
-// and the nodes of each class, by which `pricing` works the prices out in the scratch part. That part is 0 before the work, else the words are broken, and is set to 0 after it: no word changes.
+// Sizes of classes and cheapest forms, with AstSize: egg's `Extractor` over words that the caller lends. The graph is read through its promises: the head,
+// the root that `class_root` answers, and the nodes of each class, by which `pricing` works the prices out in the scratch part. That part is 0 before the
+// work, else the words are broken, and is set to 0 after it: no word changes.
 #![tactic(auto)]
 
 ghost use Rattle.std.specs.Prelude.{◌<◌, length};
-ghost use Rattle.layout.specs.Did.{Did, HeadStood};
+ghost use Rattle.layout.specs.Did.{Did};
 ghost use Rattle.layout.specs.View.{hd};
 ghost use Rattle.extract.specs.Opens.{Opens};
 ghost use Rattle.extract.specs.Priced.{PricesClass};
@@ -29,6 +30,7 @@ pub struct Form {
 }
 
 // The head of a clean graph that knows the id. A scratch part that is not 0 is not free for the work: no calls left it so.
+// Its first two steps are those of egraph's `open_known`, which would have to be public to be used here.
 fn open(ws: &[u32], id: Id) -> Result<Head, Refusal>
     ensures { Opens ws.now id.0 result }
 {
@@ -47,20 +49,12 @@ fn open(ws: &[u32], id: Id) -> Result<Head, Refusal>
 
 // The root of an id's class and the price of the class, from a scratch part that is 0, and is left with the prices of all classes.
 fn price_class(g: &mut GraphMut<'_>, id: Id) -> Result<Priced, Broken>
-    requires head_is { HeadStood g.old }
-    requires id_lt_ids { id.0 < g.old.h.ids }
+    requires { id.0 < g.old.h.ids }
     ensures { Did (λ ws ws'. PricesClass g.old.h id.0 ws result ws') g.old g.new }
 {
-    let Ok(root) = egraph::find(g.view().ws, id) else {
-        return Err(Broken);
-    };
-    if g.h.ids <= root.0 as usize {
-        return Err(Broken);
-    }
+    let root = egraph::class_root(&g.view(), id)?;
     pricing::find_costs(g)?;
-    let Some(e) = pricing::get_entry(&g.view(), root) else {
-        return Err(Broken);
-    };
+    let e = pricing::get_entry(&g.view(), root).ok_or(Broken)?;
     Ok(Priced {
         root,
         size: e.price,
@@ -69,8 +63,7 @@ fn price_class(g: &mut GraphMut<'_>, id: Id) -> Result<Priced, Broken>
 
 // The size of the class of an id, from a scratch part that is 0.
 fn work_out(g: &mut GraphMut<'_>, id: Id) -> Result<u64, Refusal>
-    requires head_is { HeadStood g.old }
-    requires id_lt_ids { id.0 < g.old.h.ids }
+    requires { id.0 < g.old.h.ids }
     ensures { Did (λ ws ws'. WorksOut g.old.h id.0 ws result ws') g.old g.new }
 {
     let priced = price_class(g, id)?;

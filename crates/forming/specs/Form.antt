@@ -7,9 +7,9 @@ use Rattle.std.specs.Prelude.{Ok, Result, List, [], ◌++◌, ◌∷◌, ◌≡�
 use Rattle.std.proofs.Common.{◌∙◌, ap, subst, sym, add-one, arith, take-suc}
 use Rattle.std.proofs.Math.Decide.{ℕ_discrete}
 use Rattle.std.proofs.Math.Seq.{take-length}
-use Rattle.language.specs.Struct.{node_of}
+use Rattle.language.specs.Fitting.{term}
 use Rattle.language.specs.Term.{Term, spell, words}
-use Rattle.language.specs.declared.Node.{Node}
+use Rattle.language.specs.declared.fit.Fit.{Fit}
 use Rattle.steps.specs.Graph.{Graph, node}
 use Rattle.egraph.specs.ClassReads.{Classed}
 use Rattle.spelling.specs.Pieces.{Wrote, long_more, pieces, pieces_more, pieces_next, pieces_none, pieces_room, wrote}
@@ -47,15 +47,15 @@ module _ (h : Head) (v : View) where
     broken = λ q. err≢ok (sym q);
   }
 
-  module _ (p : ℕ) (r : Result Node Broken) (N : NodeAt h v p r) where
+  module _ (p : ℕ) (r : Result Fit Broken) (N : NodeAt h v p r) where
     pub measure_broken : (k : ℕ) → p < k → r ≡ broken → FormMeasured h v k broken
     measure_broken k lt e = record { whole = λ x q. err≢ok q; fine = λ x q. err≢ok q; broken = λ _ F. N.lost e (F p lt) }
 
-    module _ (x : Node) (e : r ≡ Ok x) where
-      piece_is : words (node_of x) ≡ form_piece h v p
+    module _ (x : Fit) (e : r ≡ Ok x) where
+      piece_is : words (term x) ≡ form_piece h v p
       piece_is = ap words (N.exact x e)
 
-      pub measure_more : (total y : ℕ) → y ≡ length (words (node_of x)) → total ≡ length (pieces (form_piece h v) p)
+      pub measure_more : (total y : ℕ) → y ≡ length (words (term x)) → total ≡ length (pieces (form_piece h v) p)
           → total + y ≡ length (pieces (form_piece h v) (p + 1))
       measure_more total y w t = long_more (form_piece h v) p total y t (w ∙ ap length piece_is)
 
@@ -69,13 +69,13 @@ module _ (h : Head) (v : View) where
       -- ---- written
 
       module _ (out mid : List ℕ) (a : ℕ) (W : Wrote out 0 (pieces (form_piece h v) p) a mid) where
-        pub put_room : (k : ℕ) → p < k → length (pieces (form_piece h v) k) ≤ length out → a + length (words (node_of x)) ≤ length mid
+        pub put_room : (k : ℕ) → p < k → length (pieces (form_piece h v) k) ≤ length out → a + length (words (term x)) ≤ length mid
         put_room k lt fits = subst (λ (xs : List ℕ). a + length xs ≤ length mid) (sym piece_is) (pieces_room (form_piece h v) out p a mid W k lt fits)
 
         pub put_next : (s : ℕ) (out' : List ℕ) → Puts mid a x s out' → Wrote out 0 (pieces (form_piece h v) (p + 1)) s out'
         put_next s out' d =
             pieces_next (form_piece h v) out p a mid W s out'
-            (rw piece_is at (wrote mid a (words (node_of x)) s out' d.exact d.next))
+            (rw piece_is at (wrote mid a (words (term x)) s out' d.exact d.next))
 
 -- ---- on words that hold a listing
 

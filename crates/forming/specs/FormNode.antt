@@ -1,26 +1,25 @@
 -- The node at a place of the listing, as the words say it: the class at the place, the id that its mark names, the node of that id, with the places of its children.
 -- `NodeAt` is what `form_node` promises on any words; on words that hold a clean graph, its prices and a listing by them it is the node of the listing.
 -- Assumes nothing.
-use Rattle.std.specs.Prelude.{IsOk, Ok, Err, Option, Result, None, Some, List, ◌≡◌, ◌*◌, ◌+◌, ◌-◌, ◌<◌, ◌≤◌, suc, ℕ, length}
+use Rattle.std.specs.Prelude.{IsOk, Ok, Err, Result, Some, List, ◌≡◌, ◌*◌, ◌+◌, ◌-◌, ◌<◌, ◌≤◌, suc, ℕ, length}
 use Rattle.broken.specs.declared.Broken.{Broken}
 use Rattle.broken.specs.Words.{broken, err≢ok}
 use Rattle.std.proofs.Common.{◌∙◌, subst, arith}
 use Rattle.std.proofs.Math.Path.{ap, refl, sym}
 use Rattle.lists.specs.Members.{mem_at}
 use Rattle.lists.specs.Reads.{at, map_at}
-use Rattle.language.specs.Struct.{node_of}
-use Rattle.language.specs.Term.{Term, over_kids, places, term_path, words}
+use Rattle.language.specs.Fitting.{term}
+use Rattle.language.specs.Term.{Term, over_kids, term_path, words}
 use Rattle.language.specs.declared.Id.{Id}
-use Rattle.language.specs.declared.Node.{Node}
+use Rattle.language.specs.declared.fit.Fit.{Fit}
 use Rattle.steps.specs.Graph.{Graph, node}
 use Rattle.egraph.specs.ClassReads.{Classed, Readable, RootNode, classed_kids, classed_node, root_node_in}
-use Rattle.layout.specs.Lent.{Loaded}
 use Rattle.layout.specs.View.{View}
 use Rattle.layout.specs.declared.Head.{Head}
 use Rattle.price.specs.Listing.{Listing, in_order, or_zero, spot, spot_of, with_places}
 use Rattle.price.specs.Pass.{Table}
 use Rattle.price.specs.Shown.{in_order_at}
-use Rattle.pricing.specs.Entries.{EntryAt, Names, Prices, entry, mark, mark_is, named}
+use Rattle.pricing.specs.Entries.{Names, Prices, entry, mark, mark_is, named}
 use Rattle.pricing.specs.Laid.{Laid, class_at, place_word}
 use Rattle.pricing.specs.declared.Entry.{Entry}
 use Rattle.forming.specs.Kept.{AtPlace, Kept}
@@ -50,14 +49,13 @@ pub record FineNode (h : Head) (v : View) (p : ℕ) : Type 0 where
   pub readable : Readable h v (mark_of v.scratch h.n p - 1)
   pub kids : KidsPlaced h.n v.scratch (its_node h v p)
 
-pub record NodeAt (h : Head) (v : View) (p : ℕ) (r : Result Node Broken) : Type 0 where
-  pub few : (x : Node) → r ≡ Ok x → x.count ≤ places
-  pub exact : (x : Node) → r ≡ Ok x → node_of x ≡ form_node h v p
-  pub only : (x : Node) → r ≡ Ok x → FineNode h v p
+pub record NodeAt (h : Head) (v : View) (p : ℕ) (r : Result Fit Broken) : Type 0 where
+  pub exact : (x : Fit) → r ≡ Ok x → term x ≡ form_node h v p
+  pub only : (x : Fit) → r ≡ Ok x → FineNode h v p
   pub lost : r ≡ broken → FineNode h v p → ⊥
 
 -- where nothing leads astray there is a node
-pub node_there : (h : Head) (v : View) (p : ℕ) (r : Result Node Broken) → NodeAt h v p r → FineNode h v p → IsOk r
+pub node_there : (h : Head) (v : View) (p : ℕ) (r : Result Fit Broken) → NodeAt h v p r → FineNode h v p → IsOk r
 node_there h v p (Ok x) N F = refl
 node_there h v p (Err _) N F = absurd (N.lost refl F)
 
@@ -67,49 +65,23 @@ pub record ChosenAt (n : ℕ) (ss : List ℕ) (p : ℕ) (r : Result Id Broken) :
   pub found : (i : Id) → r ≡ Ok i → (at ss (4 * n + p) < n) × (0 < mark_of ss n p) × (i.0 ≡ mark_of ss n p - 1)
   pub lost : r ≡ broken → at ss (4 * n + p) < n → 0 < mark_of ss n p → ⊥
 
-module _ (n : ℕ) (ss : List ℕ) (p c : ℕ) (L : Loaded ss (4 * n + p) c) where
-  pub chosen_stray : n ≤ c → ChosenAt n ss p broken
-  chosen_stray h = record { found = λ i e. err≢ok e; lost = λ _ l m. omega (arith, L.is) }
-
-  module _ (o : Option Entry) (E : EntryAt n ss c o) where
-    its_mark : mark o ≡ mark_of ss n p
-    its_mark = rw (E.is, L.is) (mark_is _ _)
-
-    pub chosen_unpriced : o ≡ None → ChosenAt n ss p broken
-    chosen_unpriced z = record { found = λ i e. err≢ok e; lost = λ _ l m. let w : 0 ≡ mark_of ss n p = rw z at its_mark in omega arith }
-
-    pub chosen_is : c < n → (e : Entry) → o ≡ Some e → ChosenAt n ss p (Ok e.id)
-    chosen_is h e z =
-        let w : suc e.id.0 ≡ mark_of ss n p = rw z at its_mark in
-        record {
-          found = λ j d. let q : e.id ≡ j = cc in (omega (arith, L.is), omega arith, rw (← q) (omega arith));
-          lost = λ d. err≢ok (sym d);
-        }
-
 -- ---- the node
 
 refuse : (h : Head) (v : View) (p : ℕ) → (FineNode h v p → ⊥) → NodeAt h v p broken
-refuse h v p b = record { few = λ x e. err≢ok e; exact = λ x e. err≢ok e; only = λ x e. err≢ok e; lost = λ _ F. b F }
+refuse h v p b = record { exact = λ x e. err≢ok e; only = λ x e. err≢ok e; lost = λ _ F. b F }
 
 module _ (h : Head) (v : View) (p : ℕ) (o : Result Id Broken) (C : ChosenAt h.n v.scratch p o) where
-  pub node_unchosen : o ≡ broken → NodeAt h v p broken
-  node_unchosen e = refuse h v p (λ F. C.lost e F.class_low F.marked)
-
-  module _ (i : Id) (e : o ≡ Ok i) (f : Result Node Broken) (K : RootNode h v i.0 f) where
+  module _ (i : Id) (e : o ≡ Ok i) (f : Result Fit Broken) (K : RootNode h v i.0 f) where
     chosen_id : i.0 ≡ mark_of v.scratch h.n p - 1
     chosen_id = (C.found i e).2
 
-    pub node_unread : f ≡ broken → NodeAt h v p broken
-    node_unread q = refuse h v p (λ F. K.lost q (rw chosen_id F.readable))
+    module _ (y : Fit) (q : f ≡ Ok y) where
+      its : term y ≡ its_node h v p
+      its = (K.found y q).1 ∙ ap (root_node_in h v) chosen_id
 
-    module _ (y : Node) (q : f ≡ Ok y) where
-      its : node_of y ≡ its_node h v p
-      its = (K.found y q).1.exact ∙ ap (root_node_in h v) chosen_id
-
-      pub node_placed : (r : Result Node Broken) → WithPlaces h.n v.scratch (node_of y) r → NodeAt h v p r
+      pub node_placed : (r : Result Fit Broken) → WithPlaces h.n v.scratch (term y) r → NodeAt h v p r
       unfolding form_node
       node_placed r W = record {
-        few = W.few;
         exact = λ x w. W.exact x w ∙ ap (over_kids (place_at h.n v.scratch)) its;
         only = λ x w.
             let k = C.found i e in

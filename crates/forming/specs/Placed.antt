@@ -1,16 +1,16 @@
--- A node with each child replaced by the place of its class, as the scratch words say it: what a loop over the children has done after i of them, and what `with_places`
--- promises on any words.
+-- A node with each child replaced by the place of its class, as the scratch words say it: what `place` and `with_places` promise on any words.
 -- Assumes nothing.
-use Rattle.std.specs.Prelude.{None, Ok, Option, Result, Some, List, ◌≡◌, ◌*◌, ◌+◌, ◌-◌, ◌<◌, ◌≤◌, suc, ℕ, length}
+use Rattle.std.specs.Prelude.{Ok, Result, List, ◌≡◌, ◌*◌, ◌-◌, ◌<◌, ℕ, length, Err, refl, ◌+◌}
 use Rattle.broken.specs.declared.Broken.{Broken}
 use Rattle.broken.specs.Words.{broken, err≢ok}
-use Rattle.std.proofs.Common.{◌∙◌, ap, sym, arith}
+use Rattle.std.proofs.Common.{sym, arith}
 use Rattle.lists.specs.Reads.{at}
-use Rattle.language.specs.Partway.{Partway, partway_all, partway_more}
-use Rattle.language.specs.Struct.{node_of}
-use Rattle.language.specs.Term.{Term, over_kids, places, rekid}
-use Rattle.language.specs.declared.Node.{Node}
-use Rattle.pricing.specs.Laid.{PlaceAt, place_word}
+use Rattle.language.specs.Fitting.{term}
+use Rattle.language.specs.Mapped.{Mapped}
+use Rattle.language.specs.Partway.{Partway, partway_all, partway_as}
+use Rattle.language.specs.Term.{Term, over_kids}
+use Rattle.language.specs.declared.Id.{Id}
+use Rattle.language.specs.declared.fit.Fit.{Fit}
 
 -- the place of class c
 abbrev pub place_at : ℕ → List ℕ → ℕ → ℕ
@@ -23,48 +23,34 @@ HasPlace n ss c = (c < n) × (0 < at ss (3 * n + c))
 abbrev pub KidsPlaced : ℕ → List ℕ → Term → Type 0
 KidsPlaced n ss x = (i : ℕ) → i < length x.kids → HasPlace n ss (at x.kids i)
 
-pub record WithPlaces (n : ℕ) (ss : List ℕ) (x : Term) (r : Result Node Broken) : Type 0 where
-  pub few : (y : Node) → r ≡ Ok y → y.count ≤ places
-  pub exact : (y : Node) → r ≡ Ok y → node_of y ≡ over_kids (place_at n ss) x
-  pub only : (y : Node) → r ≡ Ok y → KidsPlaced n ss x
+pub record WithPlaces (n : ℕ) (ss : List ℕ) (x : Term) (r : Result Fit Broken) : Type 0 where
+  pub exact : (y : Fit) → r ≡ Ok y → term y ≡ over_kids (place_at n ss) x
+  pub only : (y : Fit) → r ≡ Ok y → KidsPlaced n ss x
   pub lost : r ≡ broken → KidsPlaced n ss x → ⊥
 
--- refused, where it must be
-refuse : (n : ℕ) (ss : List ℕ) (x : Term) → (KidsPlaced n ss x → ⊥) → WithPlaces n ss x broken
-refuse n ss x b = record { few = λ y e. err≢ok e; exact = λ y e. err≢ok e; only = λ y e. err≢ok e; lost = λ _ K. b K }
-
--- ---- the loop
+-- ---- child by child
 
 -- class c has the place k
 abbrev pub PlaceIs : ℕ → List ℕ → ℕ → ℕ → Type 0
 PlaceIs n ss c k = HasPlace n ss c × (k ≡ place_at n ss c)
 
-module _ (n : ℕ) (ss : List ℕ) (x : Term) where
-  module _ (i c : ℕ) (s : Term) (A : Partway (PlaceIs n ss) i x s) (hi : i < length x.kids) (is : c ≡ at s.kids i) where
-    kid : c ≡ at x.kids i
-    kid = is ∙ A.rest i (omega arith)
+-- the answer to what place class c has
+pub record Place (n : ℕ) (ss : List ℕ) (c : ℕ) (r : Result Id Broken) : Type 0 where
+  pub found : (k : Id) → r ≡ Ok k → PlaceIs n ss c k.0
+  pub lost : r ≡ broken → HasPlace n ss c → ⊥
 
-    pub places_stray : n ≤ c → WithPlaces n ss x broken
-    places_stray off = refuse n ss x (λ K. omega (arith, kid, (K i hi).0))
-
-    module _ (o : Option ℕ) (L : PlaceAt n ss c o) where
-      word : place_word o ≡ at ss (3 * n + at x.kids i)
-      word = L.is ∙ ap (λ (d : ℕ). at ss (3 * n + d)) kid
-
-      pub places_none : o ≡ None → WithPlaces n ss x broken
-      places_none z = refuse n ss x (λ K. omega (arith, ap place_word z, word, (K i hi).1))
-
-      -- one child more
-      pub places_more : (s' : Term) → c < n → (p : ℕ) → o ≡ Some p → s' ≡ rekid s i p → Partway (PlaceIs n ss) (i + 1) x s'
-      places_more s' low p some es =
-          let w : suc p ≡ at ss (3 * n + at x.kids i) = sym (ap place_word some) ∙ word in
-          partway_more (PlaceIs n ss) x i s A p s' hi ((omega (arith, kid), omega arith), omega arith) es
-
-  -- all of them
-  pub places_done : (i : ℕ) (y : Node) → i ≡ length x.kids → y.count ≤ places → Partway (PlaceIs n ss) i x (node_of y) → WithPlaces n ss x (Ok y)
-  places_done i y e f A = record {
-    few = λ z q. let w : y ≡ z = cc in rw (← w) f;
-    exact = λ z q. let w : y ≡ z = cc in rw (← w) (partway_all _ _ _ _ A (place_at n ss) e (λ c k q. q.1));
-    only = λ z q j l. (A.done j (omega arith)).0;
+-- all of them, where Q is what a child's class answers
+module _ (n : ℕ) (ss : List ℕ) (x : Fit) (Q : Id → Result Id Broken → Type 0) (f : (c : ℕ) (a : Result Id Broken) → Q (record { 0 = c }) a → Place n ss c a) where
+  placed : (y : Fit) → Partway (PlaceIs n ss) x.node.count (term x) (term y) → WithPlaces n ss (term x) (Ok y)
+  placed y P = record {
+    exact = λ z q. let w : y ≡ z = cc in rw (← w) (partway_all _ _ _ _ P (place_at n ss) (sym x.many) (λ c k q. q.1));
+    only = λ z q j l. (P.done j (omega (arith, x.many))).0;
     lost = λ q. err≢ok (sym q);
   }
+
+  pub places_asked : (r : Result Fit Broken) → Mapped Q x r → WithPlaces n ss (term x) r
+  places_asked (Ok y) M = placed y (partway_as _ _ _ _ _ (λ j lt q. (f _ _ q).found _ refl) (M.all y refl).1)
+  places_asked (Err e) M =
+      let D = M.refused e refl in
+      let never = λ (K : KidsPlaced n ss (term x)). (f _ _ D.2).lost refl (K D.0 (omega (arith, D.1, x.many))) in
+      record { exact = λ y q. err≢ok q; only = λ y q. err≢ok q; lost = λ _ K. never K }

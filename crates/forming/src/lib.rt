@@ -1,48 +1,46 @@
-// A cheapest form, written out from its listing in the scratch part (document 01, "The price of a form"): how many words it takes, and the words, in a slice that the
-// caller lends. The words are a clean graph's, and k classes are listed; only the slice is written. Of the scratch part are read:
+// A cheapest form, written out from its listing in the scratch part (document 01, "The price of a form"): how many words it takes, and the words, in a slice
+// that the caller lends. The words are a clean graph's, and k classes are listed; only the slice is written. Of the scratch part are read:
 //
 //   words of scratch   what
 //   0 to 3n - 1        the entry of class c (pricing): an id that has its chosen node
 //   3n + c             its place in the listing: 1 and the place
 //   4n + p             the class at place p
 //
-// and of the graph, by the promise of `egraph`, the node of an id with root children. On any words a place that leads nowhere makes `measure_form` answer broken;
-// `put_form` asks that there is none.
+// and of the graph, by the promise of `egraph`, the node of an id with root children. On any words a place that leads nowhere makes `measure_form` answer
+// broken; `put_form` asks that there is none.
 #![tactic(auto)]
 
 ghost use Rattle.std.specs.Prelude.{ℕ, ◌+◌, ◌<◌, ◌≤◌, length};
-ghost use Rattle.language.specs.Term.{places};
-ghost use Rattle.language.specs.Struct.{node_of};
+ghost use Rattle.language.specs.Fitting.{term};
 ghost use Rattle.layout.specs.Head.{HeadOk};
 ghost use Rattle.layout.specs.Seen.{seen};
 ghost use Rattle.spelling.specs.Pieces.{Wrote, pieces};
-ghost use Rattle.forming.specs.Placed.{WithPlaces};
+ghost use Rattle.forming.specs.Placed.{Place, WithPlaces};
 ghost use Rattle.forming.specs.FormNode.{ChosenAt, FineNode, NodeAt, form_piece};
 ghost use Rattle.forming.specs.Form.{FormMeasured};
 
 use broken::Broken;
-use language::{Id, Node};
+use language::{Fit, Id};
 use layout::Graph;
 
 // ---- one node
 
-// The node with each child replaced by the place of its class.
-fn with_places(g: &Graph<'_>, node: Node) -> Result<Node, Broken>
-    requires { node.count ≤ places }
-    ensures { WithPlaces g.now.h.n (seen g.now).scratch (node_of node) result }
+// The place of a class.
+fn place(g: &Graph<'_>, c: Id) -> Result<Id, Broken>
+    ensures { Place g.now.h.n (seen g.now).scratch c.0 result }
 {
-    let mut y = node;
-    for i in 0..node.count as usize {
-        let c = y.child(i);
-        if g.h.n <= c.0 as usize {
-            return Err(Broken);
-        }
-        let Some(place) = pricing::place_of(g, c) else {
-            return Err(Broken);
-        };
-        y = y.with_child(i, Id(place as u32));
+    if g.h.n <= c.0 as usize {
+        return Err(Broken);
     }
-    Ok(y)
+    let place = pricing::place_of(g, c).ok_or(Broken)?;
+    Ok(Id(place as u32))
+}
+
+// The node with each child replaced by the place of its class.
+fn with_places(g: &Graph<'_>, fit: Fit) -> Result<Fit, Broken>
+    ensures { WithPlaces g.now.h.n (seen g.now).scratch (term fit) result }
+{
+    fit.try_map(|c| place(g, c))
 }
 
 // An id that has the chosen node of the class at place p.
@@ -55,20 +53,18 @@ fn chosen(g: &Graph<'_>, p: usize) -> Result<Id, Broken>
     if n <= c {
         return Err(Broken);
     }
-    let Some(e) = pricing::get_entry(g, Id(c as u32)) else {
-        return Err(Broken);
-    };
+    let e = pricing::get_entry(g, Id(c as u32)).ok_or(Broken)?;
     Ok(e.id)
 }
 
 // The node at place p.
-fn form_node(g: &Graph<'_>, p: usize) -> Result<Node, Broken>
+fn form_node(g: &Graph<'_>, p: usize) -> Result<Fit, Broken>
     requires { p < g.now.h.n }
     ensures { NodeAt g.now.h (seen g.now) p result }
 {
     let id = chosen(g, p)?;
-    let node = egraph::root_node(g, id)?;
-    with_places(g, node)
+    let key = egraph::root_node(g, id)?;
+    with_places(g, key)
 }
 
 // ---- the form

@@ -13,10 +13,11 @@ use Rattle.layout.specs.Lent.{Lent, lent_next}
 use Rattle.layout.specs.View.{View, put, view}
 use Rattle.layout.specs.declared.Head.{Head}
 use Rattle.pending.specs.Promise.{Pushes}
+use Rattle.holds.specs.HoldsLaws.{at_depth}
 
 -- one entry more on the stack
 abbrev pub deeper : Head → Head
-deeper h = record { n = h.n; m = h.m; ids = h.ids; places = h.places; depth = h.depth + 1; classes = h.classes; clean = h.clean }
+deeper h = at_depth h (h.depth + 1)
 
 -- over a view
 pub push_holds : (h : Head) (u i : ℕ) (v : View) (g : Graph) → HoldsAt h u v g → h.depth + h.classes < 2 * h.ids

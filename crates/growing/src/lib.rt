@@ -16,10 +16,9 @@
 ghost use Rattle.std.specs.Prelude.{◌≡◌, ℕ, ◌+◌, ◌<◌, ◌≤◌};
 ghost use Rattle.lists.specs.Reads.{at};
 ghost use Rattle.lists.specs.Tests.{Says};
-ghost use Rattle.language.specs.Term.{places};
-ghost use Rattle.language.specs.Struct.{node_of};
+ghost use Rattle.language.specs.Term.{Known};
+ghost use Rattle.language.specs.Fitting.{term};
 ghost use Rattle.layout.specs.Did.{Did, SameLoan, headed};
-ghost use Rattle.growing.specs.Known.{Known};
 ghost use Rattle.growing.specs.Roots.{WithRoots};
 ghost use Rattle.growing.specs.Store.{Stores};
 ghost use Rattle.growing.specs.Enter.{Enters};
@@ -29,49 +28,42 @@ ghost use Rattle.growing.specs.Connect.{Connects};
 ghost use Rattle.growing.specs.Grow.{Grows};
 
 use broken::Broken;
-use language::{Id, Node};
+use language::{Fit, Id};
 use layout::{Graph, GraphMut};
 
 // Whether every child is one of the first `ids` ids.
-pub fn known(node: Node, ids: usize) -> bool
-    requires { node.count ≤ places }
-    ensures { Says result (Known (node_of node) ids) }
+pub fn known(fit: Fit, ids: usize) -> bool
+    ensures { Says result (Known (term fit) ids) }
 {
-    node.children().iter().all(|c| (c.0 as usize) < ids)
+    fit.node.children().iter().all(|c| (c.0 as usize) < ids)
 }
 
 // The node with each child replaced by its root. No way to a root is shortened: an add that is refused leaves all words as they were.
-pub fn with_roots(g: &Graph<'_>, node: Node) -> Result<Node, Broken>
-    requires count_le_places { node.count ≤ places }
-    requires known { Known (node_of node) g.now.h.ids }
-    ensures { WithRoots g.now.ws.now g.now.h node result }
+pub fn with_roots(g: &Graph<'_>, given: Fit) -> Result<Fit, Broken>
+    requires { Known (term given) g.now.h.ids }
+    ensures { WithRoots g.now.ws.now g.now.h given result }
 {
-    let mut y = node;
-    for i in 0..node.count as usize {
-        let root = parts::on_forest::find(g, y.child(i))?;
-        y = y.with_child(i, root);
-    }
-    Ok(y)
+    given.try_map(|c| parts::on_forest::find(g, c))
 }
 
 // ---- the steps of an add that found nothing
 
 // A new id, the next number: its own root, with its node and key stored, and a member of its own class.
-fn store(g: &mut GraphMut<'_>, node: Node, key: Node) -> Result<(), Broken>
-    requires { (g.old.h.ids < g.old.h.n) × (g.old.h.places + node.count ≤ g.old.h.m) × (node.count ≤ places) × (key.count ≡ node.count) }
-    ensures { Did (Stores g.old.h node.count (node_of node) (node_of key) result) g.old g.new }
+fn store(g: &mut GraphMut<'_>, given: Fit, key: Fit) -> Result<(), Broken>
+    requires { (g.old.h.ids < g.old.h.n) × (g.old.h.places + given.node.count ≤ g.old.h.m) × (key.node.count ≡ given.node.count) }
+    ensures { Did (Stores g.old.h given.node.count (term given) (term key) result) g.old g.new }
 {
     let id = Id(g.h.ids as u32);
     let place = g.h.places;
     parts::on_forest::make_set(g);
-    parts::on_rows::store(g, id, place, node, key);
+    parts::on_rows::store(g, id, place, given, key);
     parts::on_members::push(g, id, id)
 }
 
 // The id goes into the table under its key.
-fn enter(g: &mut GraphMut<'_>, id: Id, key: Node) -> Result<(), Broken>
-    requires { (id.0 < g.old.h.n) × (key.count ≤ places) }
-    ensures { Did (Enters g.old.h id.0 (node_of key) result) g.old g.new }
+fn enter(g: &mut GraphMut<'_>, id: Id, key: Fit) -> Result<(), Broken>
+    requires { id.0 < g.old.h.n }
+    ensures { Did (Enters g.old.h id.0 (term key) result) g.old g.new }
 {
     let bucket = table::bucket(key, g.h.n);
     parts::on_table::enter(g, bucket, id)
@@ -87,13 +79,13 @@ fn link_one(g: &mut GraphMut<'_>, place: usize, id: Id, list: Id) -> Result<(), 
 }
 
 // The id owns the places of its children, from `base` on, and stands in the parent list of each child's root, once for each place.
-fn link_all(g: &mut GraphMut<'_>, base: usize, id: Id, key: Node) -> Result<(), Broken>
-    requires count_le_places { (key.count ≤ places) × (base + key.count ≤ g.old.h.places) }
-    requires by_index { (i : ℕ) → i < key.count → at (node_of key).kids i < g.old.h.ids }
-    ensures { Did (LinksAll g.old.h base id.0 (node_of key).kids result) g.old g.new }
+fn link_all(g: &mut GraphMut<'_>, base: usize, id: Id, key: Fit) -> Result<(), Broken>
+    requires in_places { base + key.node.count ≤ g.old.h.places }
+    requires by_index { (i : ℕ) → i < key.node.count → at (term key).kids i < g.old.h.ids }
+    ensures { Did (LinksAll g.old.h base id.0 (term key).kids result) g.old g.new }
 {
-    for j in 0..key.count as usize {
-        link_one(g, base + j, id, key.child(j))?;
+    for (j, root) in key.node.children().iter().enumerate() {
+        link_one(g, base + j, id, *root)?;
     }
     Ok(())
 }
@@ -111,27 +103,27 @@ fn push(g: &mut GraphMut<'_>, id: Id) -> Result<(), Broken>
 }
 
 // The id is linked to the parent list of each child's root, and goes on the pending list.
-fn connect(g: &mut GraphMut<'_>, base: usize, id: Id, key: Node) -> Result<(), Broken>
-    requires count_le_places { (key.count ≤ places) × (base + key.count ≤ g.old.h.places) }
-    requires by_index { (i : ℕ) → i < key.count → at (node_of key).kids i < g.old.h.ids }
-    ensures { Did (Connects g.old.h base id.0 (node_of key).kids result) g.old g.new }
+fn connect(g: &mut GraphMut<'_>, base: usize, id: Id, key: Fit) -> Result<(), Broken>
+    requires in_places { base + key.node.count ≤ g.old.h.places }
+    requires by_index { (i : ℕ) → i < key.node.count → at (term key).kids i < g.old.h.ids }
+    ensures { Did (Connects g.old.h base id.0 (term key).kids result) g.old g.new }
 {
     link_all(g, base, id, key)?;
     push(g, id)
 }
 
 // One id more, for a node that was not found: `key` is the node with root children. The new id is the number of ids before.
-pub fn grow(g: &mut GraphMut<'_>, node: Node, key: Node) -> Result<(), Broken>
-    requires ids_lt_n { (g.old.h.ids < g.old.h.n) × (g.old.h.places + node.count ≤ g.old.h.m) × (node.count ≤ places) × (key.count ≡ node.count) }
-    requires by_index { (i : ℕ) → i < key.count → at (node_of key).kids i < g.old.h.ids }
+pub fn grow(g: &mut GraphMut<'_>, given: Fit, key: Fit) -> Result<(), Broken>
+    requires ids_lt_n { (g.old.h.ids < g.old.h.n) × (g.old.h.places + given.node.count ≤ g.old.h.m) × (key.node.count ≡ given.node.count) }
+    requires by_index { (i : ℕ) → i < key.node.count → at (term key).kids i < g.old.h.ids }
     ensures loan { SameLoan g.old g.new }
-    ensures grows { Grows g.old.h (node_of node) (node_of key) (headed g.new.h result) g.old.ws.now g.new.ws.now }
+    ensures grows { Grows g.old.h (term given) (term key) (headed g.new.h result) g.old.ws.now g.new.ws.now }
 {
     let id = Id(g.h.ids as u32);
     let base = g.h.places;
-    store(g, node, key)?;
+    store(g, given, key)?;
     g.h.ids += 1;
-    g.h.places += node.count as usize;
+    g.h.places += given.node.count as usize;
     g.h.classes += 1;
     g.h.clean = false;
     enter(g, id, key)?;

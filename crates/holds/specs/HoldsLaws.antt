@@ -1,7 +1,7 @@
 -- How `HoldsAt` goes through small changes: the way to a root shortened, the head written, `clean` unset, the sort's work area used. And the border between words at
 -- rest and the numbers and parts of a call.
 -- Assumes nothing.
-use Rattle.std.specs.Prelude.{false, List, ◌≡◌, refl, ◌<◌, ◌≤◌, ℕ, length}
+use Rattle.std.specs.Prelude.{Bool, false, List, ◌≡◌, refl, ◌<◌, ◌≤◌, ℕ, length}
 use Rattle.std.proofs.Common.{⊎_elim, ap, subst, sym}
 use Rattle.std.proofs.lemmas.Bool.{false≢true}
 use Rattle.lists.specs.Tests.{lt_or}
@@ -16,8 +16,13 @@ use Rattle.layout.specs.Written.{Noted, head_written, noted_is, written}
 use Rattle.layout.specs.declared.Head.{Head}
 use Rattle.unionfind.specs.Forest.{Forest, root_root}
 
-abbrev pub unclean : Head → Head
-unclean h = record { n = h.n; m = h.m; ids = h.ids; places = h.places; depth = h.depth; classes = h.classes; clean = false }
+-- the numbers of a graph that is marked as clean, or as not (`marked`)
+abbrev pub marked_head : Head → Bool → Head
+marked_head h b = record { n = h.n; m = h.m; ids = h.ids; places = h.places; depth = h.depth; classes = h.classes; clean = b }
+
+-- the numbers with another depth of pending
+abbrev pub at_depth : Head → ℕ → Head
+at_depth h d = record { n = h.n; m = h.m; ids = h.ids; places = h.places; depth = d; classes = h.classes; clean = h.clean }
 
 module _ {h : Head} {u : ℕ} {v : View} {g : Graph} (H : HoldsAt h u v g) where
   -- another forest with the same roots
@@ -74,7 +79,7 @@ module _ {h : Head} {u : ℕ} {v : View} {g : Graph} (H : HoldsAt h u v g) where
     scratch = H.scratch;
   }
 
-  pub holds_unclean : HoldsAt (unclean h) u v (marked g false)
+  pub holds_unclean : HoldsAt (marked_head h false) u v (marked g false)
   holds_unclean = record {
     range = record { n_low = H.range.n_low; n_high = H.range.n_high; m_high = H.range.m_high; ids_in = H.range.ids_in; places_in = H.range.places_in; depth_in = H.range.depth_in; classes_in = H.range.classes_in };
     ids_are = H.ids_are;

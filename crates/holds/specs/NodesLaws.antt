@@ -5,10 +5,9 @@ use Rattle.std.specs.Prelude.{None, Ok, Result, Some, List, [], ◌++◌, ◌∷
 use Rattle.broken.specs.declared.Broken.{Broken}
 use Rattle.broken.specs.Words.{broken}
 use Rattle.std.proofs.Common.{inl, ◌∙◌, ap, sym, arith}
-use Rattle.lists.specs.Options.{none≢some}
 use Rattle.lists.specs.Reads.{length_more}
 use Rattle.lists.specs.Relabel.{relabel}
-use Rattle.language.specs.Term.{Term, term_at}
+use Rattle.language.specs.Term.{Term, term_at, term_new, term_old}
 use Rattle.language.specs.declared.Id.{Id}
 use Rattle.steps.specs.Graph.{kept, node, root}
 use Rattle.closure.specs.Facts.{root_before, root_more}
@@ -17,15 +16,15 @@ use Rattle.cells.specs.Empty.{Cleared}
 use Rattle.holds.specs.Nodes.{Nodes}
 use Rattle.holds.specs.NodesPut.{nodes_put, vacant_alone}
 use Rattle.rows.specs.Determined.{determined, rows_none}
-use Rattle.rows.specs.Places.{term_new, term_old}
 use Rattle.rows.specs.Promise.{IsNodeOf, Given, Key, Stored}
 use Rattle.rows.specs.Rows.{size, taken}
-use Rattle.language.specs.declared.Node.{Node}
+use Rattle.language.specs.declared.fit.Fit.{Fit}
 use Rattle.table.specs.Asking.{Answers}
 use Rattle.table.specs.Buckets.{bucket_of}
 use Rattle.table.specs.Entering.{Entered}
 use Rattle.table.specs.Keys.{not_held_none, table_determined, table_more, table_none}
 use Rattle.table.specs.Table.{Held, not_held_new}
+use Rattle.std.proofs.lemmas.Option.{none-some}
 
 -- ---- fresh parts
 
@@ -36,7 +35,7 @@ nodes_fresh n m rs ts ts' e c = record {
   rows = rows_none rs n m e;
   buckets = replicate n [];
   table = table_none ts ts' n c;
-  found = λ k i live f. absurd (none≢some f);
+  found = λ k i live f. absurd (none-some _ f);
   only = λ k i live h f. absurd (not_held_none n i h);
 }
 
@@ -69,11 +68,11 @@ module _ (n m : ℕ) (rs ts : List ℕ) (ns : List Term) (roots : List ℕ) (mem
 
   -- ---- reads
 
-  pub nodes_given : (i : ℕ) (r : Result Node Broken) → i < length ns → Given rs n m i r → IsNodeOf r (node ns i)
+  pub nodes_given : (i : ℕ) (r : Result Fit Broken) → i < length ns → Given rs n m i r → IsNodeOf r (node ns i)
   unfolding node
   nodes_given i r h G = G.sound ns D.keys D.rows h
 
-  pub nodes_key : (i : ℕ) (r : Result Node Broken) → i < length ns → Key rs n m i r → IsNodeOf r (term_at D.keys i)
+  pub nodes_key : (i : ℕ) (r : Result Fit Broken) → i < length ns → Key rs n m i r → IsNodeOf r (term_at D.keys i)
   nodes_key i r h K = K.sound ns D.keys D.rows h
 
   pub nodes_ask : (k : Term) (r : Result (Option Id) Broken) → Live roots k → Answers ts rs n m k r → Asks k memo (length ns) r

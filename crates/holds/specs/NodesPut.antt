@@ -4,7 +4,6 @@
 use Rattle.std.specs.Prelude.{Ok, Result, List, ◌∷◌, ◌≢◌, ◌⊎◌, ◌≡◌, refl, ◌<◌, ℕ, length, None, Some}
 use Rattle.broken.specs.declared.Broken.{Broken}
 use Rattle.std.proofs.Common.{inl, inr, ◌∙◌, ap, sym, arith}
-use Rattle.lists.specs.Options.{none≢some, some_inj}
 use Rattle.language.specs.Term.{Term, same_term, term_at}
 use Rattle.steps.specs.Graph.{kept}
 use Rattle.closure.specs.Facts.{kept_here, kept_past}
@@ -16,6 +15,7 @@ use Rattle.table.specs.Buckets.{bucket_of}
 use Rattle.table.specs.Entering.{Adds, Entered}
 use Rattle.table.specs.Keys.{table_agree}
 use Rattle.table.specs.Table.{Held, Table}
+use Rattle.std.proofs.lemmas.Option.{none-some, same_Some}
 
 -- The words hold a table in which no id other than i has the key k. Of what the buckets L hold, only i and ids with the key k may have gone.
 pub record Vacant (n : ℕ) (ts : List ℕ) (ks : List Term) (L : List (List ℕ)) (i : ℕ) (k : Term) : Type 0 where
@@ -42,8 +42,8 @@ module _ (n m : ℕ) (rs ts : List ℕ) (ns : List Term) (roots : List ℕ) (mem
   }
     where
       go : (kept k memo ≡ None) ⊎ (kept k memo ≡ Some i) → (y : ℕ) → kept k memo ≡ Some y → y ≡ i
-      go (inl f) y e = absurd (none≢some (sym f ∙ e))
-      go (inr f) y e = some_inj (sym e ∙ f)
+      go (inl f) y e = absurd (none-some _ (sym f ∙ e))
+      go (inr f) y e = same_Some _ _ (sym e ∙ f)
 
   -- ---- i goes in: it has the key k, and the others have kept their keys
 
@@ -63,7 +63,7 @@ module _ (n m : ℕ) (rs ts : List ℕ) (ns : List Term) (roots : List ℕ) (mem
     put_found K a k' y l e = go (same_term k' k)
       where
         go : Dec (k' ≡ k) → Held K y × (term_at ks y ≡ k')
-        go (yes q) = let is : i ≡ y = some_inj (sym (kept_here k' k i memo q) ∙ e) in rw (← is) (a.new, key ∙ sym q)
+        go (yes q) = let is : i ≡ y = same_Some _ _ (sym (kept_here k' k i memo q) ∙ e) in rw (← is) (a.new, key ∙ sym q)
         go (no q) =
             let f : kept k' memo ≡ Some y = sym (kept_past k' k i memo q) ∙ e in
             let h = D.found k' y l f in

@@ -10,9 +10,9 @@ use Rattle.std.proofs.Math.Path.{ap, sym}
 use Prim.Native.Nat.{◌+◌, ◌-◌, ◌<◌, ◌≤◌, suc, ℕ}
 use native.Mathlib.Omega.{arith}
 use Rattle.std.proofs.Math.ListN.{get_or-eq_default, get_or, length, length-append, length-set, set}
-use Rattle.std.proofs.lemmas.List.{length-map}
+use Rattle.std.proofs.lemmas.List.{length-map, take-map}
 use Rattle.std.proofs.Math.Seq.{get_or-set_other, get_or-set_same}
-use Rattle.lists.specs.Reads.{at, get_or_map_lt, get_or_more, get_or_copies, map_at, take_map}
+use Rattle.lists.specs.Reads.{at, get_or_map_lt, get_or_more, get_or_copies, map_at}
 use Rattle.lists.specs.Tests.{lt_or}
 use Rattle.steps.specs.Graph.{uses}
 use Rattle.steps.specs.Machine.{link}
@@ -240,7 +240,7 @@ module _ (n m N u d : ℕ) (us own st : List ℕ) (ps : List (List ℕ)) (pend :
         rw eb (record {
           places = take (k - 1) o.places;
           stretch = stretch_pop us n m L P.pool c (k - 1) o.places s;
-          are = ap (take (k - 1)) o.are ∙ take_map (at own) o.places (k - 1);
+          are = ap (take (k - 1)) o.are ∙ take-map (at own) (k - 1) o.places;
         }) in
         let last : at top.xs (k - 1) ≡ at own c =
         ap (λ (l : List ℕ). at l (k - 1)) o.are ∙ get_or_map_lt (at own) o.places (k - 1) (omega (arith, s.size)) ∙ ap (at own) (sym (s.final (k - 1) refl)) in

@@ -3,5 +3,9 @@ pub mod Ordered
 pub mod Sorted
 pub mod Hashed
 pub mod Struct
+pub mod Children
+pub mod Told
 pub mod Methods
 pub mod Partway
+pub mod Mapped
+pub mod Fitting

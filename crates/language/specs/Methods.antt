@@ -72,9 +72,6 @@ module _ (x : Node) (f : Full x) (h : x.count ≤ places) (ks : List Id) (e : nu
   unfolding hash node_of
   hashed = rw (← fold-map mixed (λ (k : Id). k.0) _ ks, e, count_kids x f h) refl
 
-  pub as_many : length ks ≡ x.count
-  as_many = sym (length-map ks (λ (k : Id). k.0)) ∙ ap length e ∙ count_kids x f h
-
 -- one child more stored
 pub put_more : (ks : List Id) (l : List ℕ) (p i : ℕ) → i < length ks
     → set (sets l p (take i (numbers ks))) (p + i) (get_or ks i (record { 0 = 0 })).0 ≡ sets l p (take (i + 1) (numbers ks))

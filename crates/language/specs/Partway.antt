@@ -1,7 +1,7 @@
 -- A node whose children are replaced one after the other, by a loop over them: what stands after i of them, one more, and all.
 -- What a new child k has to do with the child c before it is a parameter, Q c k.
 -- Assumes nothing.
-use Rattle.std.specs.Prelude.{map, ◌≢◌, ◌⊎◌, ◌≡◌, refl, ◌+◌, ◌<◌, ◌≤◌, ℕ, length, set}
+use Rattle.std.specs.Prelude.{map, ◌≢◌, ◌⊎◌, ◌≡◌, ◌+◌, ◌<◌, ◌≤◌, ℕ, length, set}
 use Rattle.std.proofs.Common.{inl, inr, ◌∙◌, sym, arith, ext_get_or}
 use Rattle.std.proofs.lemmas.List.{length-map}
 use Rattle.std.proofs.Math.ListN.{length-set}
@@ -19,9 +19,6 @@ pub record Partway (Q : ℕ → ℕ → Type 0) (i : ℕ) (t s : Term) : Type 0 
   pub rest : (j : ℕ) → i ≤ j → at s.kids j ≡ at t.kids j
 
 module _ (Q : ℕ → ℕ → Type 0) (t : Term) where
-  pub partway_none : Partway Q 0 t t
-  partway_none = record { op = refl; payload = refl; size = refl; done = λ j h. absurd (omega arith); rest = λ j h. refl }
-
   module _ (i : ℕ) (s : Term) (P : Partway Q i t s) where
     -- one child more
     pub partway_more : (k : ℕ) (s' : Term) → i < length t.kids → Q (at t.kids i) k → s' ≡ rekid s i k → Partway Q (i + 1) t s'
@@ -45,3 +42,8 @@ module _ (Q : ℕ → ℕ → Type 0) (t : Term) where
         term_path P.op P.payload
         (ext_get_or 0 s.kids (map f t.kids) (P.size ∙ sym (length-map t.kids f))
         (λ j h. is _ _ (P.done j (omega (arith, P.size))) ∙ sym (get_or_map_lt f t.kids j (omega (arith, P.size)))))
+
+-- what is known of each new child, in other words
+pub partway_as : (Q R : ℕ → ℕ → Type 0) (i : ℕ) (t s : Term) → ((j : ℕ) → j < i → Q (at t.kids j) (at s.kids j) → R (at t.kids j) (at s.kids j)) → Partway Q i t s
+    → Partway R i t s
+partway_as Q R i t s f P = record { op = P.op; payload = P.payload; size = P.size; done = λ j h. f j h (P.done j h); rest = P.rest }

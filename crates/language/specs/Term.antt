@@ -1,11 +1,14 @@
 -- A node as a plain value, as document 01 has it ("What a graph may hold"): an operator, a payload, and a list of children, each an id.
 -- Two nodes match if operator, payload and child count are equal; in a slice of words a node is operator, payload, child count, children.
 -- Assumes nothing.
-use Rattle.std.specs.Prelude.{◌≡◌, refl, ℕ, get_or, length, set}
+use Rattle.std.specs.Prelude.{◌≡◌, refl, ◌<◌, ℕ, get_or, length, set}
 use Rattle.std.proofs.Common.{sym, ap}
 use mathlib.Core.List.{List, [], ◌∷◌, ◌++◌, map, head-eq_of_cons-eq, tail-eq_of_cons-eq, cons≢nil}
 use Rattle.std.proofs.Math.Decide.{ℕ_discrete}
+use Rattle.lists.specs.Reads.{at}
 use Rattle.lists.specs.Tests.{both, re_dec}
+use Rattle.std.proofs.Math.ListN.{get_or-append}
+use Rattle.std.proofs.Math.Seq.{get_or-append_seam}
 
 pub record Term : Type 0 where
   pub op : ℕ
@@ -16,9 +19,20 @@ pub record Term : Type 0 where
 abbrev pub term_at : List Term → ℕ → Term
 term_at ts i = get_or ts i (record { op = 0; payload = 0; kids = [] })
 
+-- one node more at the end
+pub term_old : (ts : List Term) (t : Term) (i : ℕ) → i < length ts → term_at (ts ++ (t ∷ [])) i ≡ term_at ts i
+term_old ts t i h = get_or-append ts (t ∷ []) (record { op = 0; payload = 0; kids = [] }) i h
+
+pub term_new : (ts : List Term) (t : Term) → term_at (ts ++ (t ∷ [])) (length ts) ≡ t
+term_new ts t = get_or-append_seam ts t [] (record { op = 0; payload = 0; kids = [] })
+
 -- how many children a node may have
 abbrev pub places : ℕ
 places = 8
+
+-- every child is one of the first N ids
+abbrev pub Known : Term → ℕ → Type 0
+Known x N = (i : ℕ) → i < length x.kids → at x.kids i < N
 
 pub record Match (s t : Term) : Type 0 where
   pub op : s.op ≡ t.op

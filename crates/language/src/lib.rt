@@ -12,8 +12,13 @@ ghost use Rattle.language.specs.Term.{places, Match, grown, rekid};
 ghost use Rattle.language.specs.Struct.{node_of};
 ghost use Rattle.language.specs.Ordered.{order};
 ghost use Rattle.language.specs.Hashed.{hash, mixed};
+ghost use Rattle.language.specs.Fitting.{term};
 
 use std::cmp::Ordering;
+
+mod fit; // fit.rt: a node whose row has all its children
+
+pub use fit::Fit;
 
 // How many children a node may have: the one number that a longer row changes, here and in specs/Term.antt.
 pub const PLACES: usize = 8;
@@ -21,14 +26,16 @@ pub const PLACES: usize = 8;
 const FACTOR: u32 = 2654435769;
 
 // That an id is known is asked where it is used, and is no fact of an `Id`: it depends on the graph, and words hold any number.
+// A number is made an id, and an id a number, in Rust's own words, `Id(i as u32)` and `id.0 as usize`: a `From` or a method would be a call, and each proof
+// above would have to cite what it promises. So a loop over all ids goes over their numbers, which is what it keeps its promise of.
 #[derive(Clone, Copy, Debug, PartialEq, Eq, PartialOrd, Ord, Hash)]
 pub struct Id(pub u32);
 
 #[derive(Clone, Copy, Debug, PartialEq, Eq, PartialOrd, Ord, Hash)]
 pub struct Op(pub u32);
 
-// The children are the first `count` of `kids`. No vector of a fixed capacity, which has no heap either: it is no `Copy`, and a node in hand may count more than
-// eight children, which an open call refuses by 5 (`Gated` of egraph).
+// The children are the first `count` of `kids`. No vector of a fixed capacity, which has no heap either: it is no `Copy`, and a node in hand may count more
+// than eight children, which an open call refuses by 5 (`Gated` of egraph).
 #[derive(Clone, Copy)]
 pub struct Node {
     pub op: Op,
@@ -62,6 +69,18 @@ impl Node {
             count: 0,
             kids: [Id(0); PLACES],
         }
+    }
+
+    // A node with the children that a slice has, in plain numbers.
+    pub fn over(op: Op, payload: u32, kids: &[u32]) -> Node
+        requires { length kids.now ≤ places }
+        ensures { (result.count ≡ length kids.now) × (node_of result ≡ record { op = op.0; payload = payload; kids = kids.now }) }
+    {
+        let mut node = Node::leaf(op, payload);
+        for kid in kids {
+            node = node.with(Id(*kid));
+        }
+        node
     }
 
     // The children alone, without the places past the count.
@@ -98,7 +117,7 @@ impl Node {
         self
     }
 
-    // Equal in operator, payload and child count.
+    // Equal in operator, payload and child count: less than any `==`.
     pub fn matches(self, other: Node) -> bool
         requires { (self.count ≤ places) × (other.count ≤ places) }
         ensures { Says result (Match (node_of self) (node_of other)) }
@@ -106,7 +125,8 @@ impl Node {
         (self.op, self.payload, self.count) == (other.op, other.payload, other.count)
     }
 
-    // Matching, and the children equal: one key of the table. No `==` is derived, since it would compare the places past the count.
+    // Matching, and the children equal: one key of the table. No `==` is derived, since it would compare the places past the count, and none is written, since
+    // `==` may be asked of any two nodes, and this of two with at most eight children.
     pub fn same(self, other: Node) -> bool
         requires { (self.count ≤ places) × (other.count ≤ places) }
         ensures { Says result (node_of self ≡ node_of other) }
@@ -114,7 +134,7 @@ impl Node {
         self.matches(other) && self.children() == other.children()
     }
 
-    // Node order: operator, payload, child count, children left to right. No order is derived either, for the same reason.
+    // Node order: operator, payload, child count, children left to right. No `Ord` is derived or written either, for the same reasons.
     pub fn order(self, other: Node) -> Ordering
         requires { (self.count ≤ places) × (other.count ≤ places) }
         ensures { result ≡ order (node_of self) (node_of other) }
@@ -133,12 +153,13 @@ impl Node {
     }
 }
 
-// A node's children, one after another from a place on.
-pub fn put_kids(ws: &mut [u32], place: usize, node: Node)
-    requires { (node.count ≤ places) × (place + node.count ≤ length ws.old) }
-    ensures { ws.new ≡ sets ws.old place (node_of node).kids }
+// A node's children, one after another from a place on. The words are written by index: of a slice that is lent to `iter_mut` a proof knows the length alone
+// afterwards.
+pub fn put_kids(ws: &mut [u32], place: usize, fit: Fit)
+    requires { place + fit.node.count ≤ length ws.old }
+    ensures { ws.new ≡ sets ws.old place (term fit).kids }
 {
-    for (i, k) in node.children().iter().enumerate() {
+    for (i, k) in fit.node.children().iter().enumerate() {
         ws[place + i] = k.0;
     }
 }

@@ -1,13 +1,12 @@
 -- The head as it is read: which numbers stand there, when they are good, and what a function that read them may use.
 -- `numbers` stays shut, so that `rw (← q.is)` with a `HeadIs` q puts the struct in the place of what stands in the words.
 -- Assumes nothing.
-use Rattle.std.specs.Prelude.{Bool, false, true, List, None, Option, Some, ◌≡◌, ◌*◌, ◌≤◌, ℕ, eqb, length, refl}
+use Rattle.std.specs.Prelude.{Bool, false, true, List, None, Option, Some, ◌≡◌, ◌*◌, ◌≤◌, ℕ, eqb, refl}
 use Rattle.std.specs.Bool.{then_some}
 use Rattle.std.proofs.Common.{subst, sym, arith}
 use Rattle.lists.specs.Reads.{at}
 use Rattle.lists.specs.Tests.{Says}
-use Rattle.layout.specs.Cut.{Part, need}
-use Rattle.layout.specs.Lent.{Lent, lent_head}
+use Rattle.layout.specs.Cut.{need}
 use Rattle.layout.specs.View.{hd, hd_at}
 use Rattle.layout.specs.declared.Head.{Head}
 
@@ -54,9 +53,6 @@ head_good {len} q = record { flag = q.flag; ok = subst (λ (t : Head). HeadOk le
 pub head_is : (len : ℕ) (h : List ℕ) (r : Option Head) (s : Head) → HeadSays len h r → r ≡ Some s → HeadIs len h s
 head_is len h r s p e = rw e at p
 
-pub head_bad : (len : ℕ) (h : List ℕ) (r : Option Head) → HeadSays len h r → r ≡ None → GoodHead len h → ⊥
-head_bad len h r p e = rw e at p
-
 -- the numbers of the words are those of their head
 pub numbers_hd : (ws : List ℕ) → numbers ws ≡ numbers (hd ws)
 unfolding numbers
@@ -80,7 +76,3 @@ head_untold len h s b e q t g = q.fails t (subst (λ (x : Head). HeadOk len x) (
 pub head_tested : (len : ℕ) (h : List ℕ) (s : Head) (b : Bool) → s ≡ numbers h → at h 6 ≤ 1 → Says b (HeadOk len s) → HeadSays len h (then_some b s)
 head_tested len h s true e f q = head_told len h s true e f q refl
 head_tested len h s false e f q = head_untold len h s false e q refl
-
--- a lend leaves the head good
-pub lent_is : {k : Part} {n m : ℕ} {P : List ℕ → List ℕ → Type 0} {ws ws' : List ℕ} {s : Head} → Lent k n m P ws ws' → HeadIs (length ws) (hd ws) s → HeadIs (length ws') (hd ws') s
-lent_is t q = rw (lent_head t, t.size) q

@@ -1,9 +1,8 @@
 -- What is left when one part was lent: the length stays, nothing but the part has changed, and what the callee promised holds between the part before and after.
 -- `lent_range` of proofs, Lent, is the law that a function that lends a part cites; `LentBoth` is that for the rows lent together with the sort's work area.
 -- Assumes nothing.
-use Rattle.std.specs.Prelude.{List, ◌≡◌, ◌<◌, ◌^◌, ℕ, drop, length, set}
+use Rattle.std.specs.Prelude.{List, ◌≡◌, ℕ, drop, length, set}
 use Rattle.std.proofs.Common.{◌∙◌, ap, subst, sym}
-use Rattle.lists.specs.Reads.{at}
 use Rattle.layout.specs.Cut.{Part, need}
 use Rattle.layout.specs.View.{View, get, hd, put, put_head_of, put_put, put_rest_of, view, view_head, view_rest}
 
@@ -13,13 +12,9 @@ pub record Lent (k : Part) (n m : ℕ) (P : List ℕ → List ℕ → Type 0) (w
   pub else : view n m ws' ≡ put k (view n m ws) (get k (view n m ws'))
   pub did : P (get k (view n m ws)) (get k (view n m ws'))
 
--- a word stored, and a word read: what a part that is a plain array promises
+-- a word stored: what a part that is a plain array promises
 abbrev pub Stored : ℕ → ℕ → List ℕ → List ℕ → Type 0
 Stored i v l l' = l' ≡ set l i v
-
-pub record Loaded (l : List ℕ) (i r : ℕ) : Type 0 where
-  pub is : r ≡ at l i
-  pub low : r < 2 ^ 32
 
 -- ---- chains
 

@@ -13,18 +13,9 @@ use Rattle.layout.specs.Head.{HeadIs, HeadOk, numbers}
 use Rattle.layout.specs.View.{View, hd, hd_length, put_head, view, view_head}
 use Rattle.layout.specs.declared.Head.{Head}
 
--- a flag as a word
-abbrev pub bit : Bool → ℕ
-bit true = 1
-bit false = 0
-
-bit_is : (b : Bool) → from_bool b ≡ bit b
-bit_is true = refl
-bit_is false = refl
-
 -- the head h with the numbers of s in the first seven words; the spare words stay
 unfoldable pub written : List ℕ → Head → List ℕ
-written h s = s.n ∷ s.m ∷ s.ids ∷ s.places ∷ s.depth ∷ s.classes ∷ bit s.clean ∷ drop 7 h
+written h s = s.n ∷ s.m ∷ s.ids ∷ s.places ∷ s.depth ∷ s.classes ∷ from_bool s.clean ∷ drop 7 h
 
 -- the numbers of a fresh graph
 abbrev pub fresh_numbers : ℕ → ℕ → Head
@@ -47,7 +38,7 @@ unfolding numbers written
 numbers_written h s = go s.clean
   where
     go : (b : Bool) → ◌≡◌ {A = Head}
-        (record { n = s.n; m = s.m; ids = s.ids; places = s.places; depth = s.depth; classes = s.classes; clean = eqb (bit b) 1 })
+        (record { n = s.n; m = s.m; ids = s.ids; places = s.places; depth = s.depth; classes = s.classes; clean = eqb (from_bool b) 1 })
         (record { n = s.n; m = s.m; ids = s.ids; places = s.places; depth = s.depth; classes = s.classes; clean = b })
     go true = refl
     go false = refl
@@ -56,7 +47,7 @@ pub flag_written : (h : List ℕ) (s : Head) → at (written h s) 6 ≤ 1
 unfolding written
 flag_written h s = go s.clean
   where
-    go : (b : Bool) → bit b ≤ 1
+    go : (b : Bool) → from_bool b ≤ 1
     go true = omega arith
     go false = omega arith
 
@@ -109,8 +100,7 @@ pub noted_written : (ws ys : List ℕ) (s : Head) (b : ℕ)
     → Noted ws (ys ++ drop 7 ws) (written (hd ws) s)
 unfolding written
 noted_written ws ys s b long e eb =
-    let c : b ≡ bit s.clean = eb ∙ bit_is s.clean in
-    subst (λ (x : ℕ). Noted ws (ys ++ drop 7 ws) (s.n ∷ s.m ∷ s.ids ∷ s.places ∷ s.depth ∷ s.classes ∷ x ∷ drop 7 (hd ws))) c
+    subst (λ (x : ℕ). Noted ws (ys ++ drop 7 ws) (s.n ∷ s.m ∷ s.ids ∷ s.places ∷ s.depth ∷ s.classes ∷ x ∷ drop 7 (hd ws))) eb
     (subst (λ (l : List ℕ). Noted ws (ys ++ drop 7 ws) (l ++ drop 7 (hd ws))) e (noted_part 0 7 ws ys (omega arith) (omega arith) long (ap length e)))
 
 -- ---- the head of a fresh graph

@@ -1,50 +1,51 @@
-// The parts that are plain arrays: owners, one word for each child place; scratch, 6n words; and the work area of the sort, 2n words. What reads or writes a
-// word of them stands three times, one line each: a function for all would be given the range and its length at every call.
+// The parts that are plain arrays: owners, one word for each child place; scratch, 6n words; and the work area of the sort, 2n words. A word of each is read
+// and written by `load` and `store`, given the part; what stands three times is which part it is, in the range and in the promise.
 ghost use Rattle.std.specs.Prelude.{◌≡◌, ◌*◌, ◌<◌, ◌^◌, length, replicate};
 ghost use Rattle.lists.specs.Tests.{Says};
 ghost use Rattle.layout.specs.Cut.{owners, scratch, sorting};
 ghost use Rattle.layout.specs.Seen.{seen};
-ghost use Rattle.layout.specs.Lent.{Lent, Stored, Loaded};
+ghost use Rattle.layout.specs.Lent.{Lent, Stored};
 ghost use Rattle.layout.specs.Did.{Did};
+ghost use Rattle.lists.specs.Reads.{Word};
 
 use super::{Graph, GraphMut};
 
-fn load(ws: &[u32], i: usize) -> usize
+fn load(ws: &[u32], i: usize) -> u32
     requires { i < length ws.now }
-    ensures { Loaded ws.now i result }
+    ensures { Word ws.now i result }
 {
-    ws[i] as usize
+    ws[i]
 }
 
-fn store(ws: &mut [u32], i: usize, v: usize)
-    requires { (i < length ws.old) × (v < 2 ^ 32) }
+fn store(ws: &mut [u32], i: usize, v: u32)
+    requires { i < length ws.old }
     ensures { Stored i v ws.old ws.new }
 {
-    ws[i] = v as u32;
+    ws[i] = v;
 }
 
 // The id that owns a child place.
-pub fn owner(g: &Graph<'_>, place: usize) -> usize
+pub fn owner(g: &Graph<'_>, place: usize) -> u32
     requires { place < g.now.h.m }
-    ensures { Loaded (seen g.now).owners place result }
+    ensures { Word (seen g.now).owners place result }
 {
     load(&g.ws[g.h.owners()], place)
 }
 
-pub fn set_owner(g: &mut GraphMut<'_>, place: usize, id: usize)
-    requires { (place < g.old.h.m) × (id < 2 ^ 32) }
+pub fn set_owner(g: &mut GraphMut<'_>, place: usize, id: u32)
+    requires { place < g.old.h.m }
     ensures { Did (Lent owners g.old.h.n g.old.h.m (Stored place id)) g.old g.new }
 {
     let h = g.h;
     store(&mut g.ws[h.owners()], place, id);
 }
 
-// Word i of the scratch part.
+// Word i of the scratch part: a price's half, a mark, a place or a class, of which most are indices.
 pub fn scratch(g: &Graph<'_>, i: usize) -> usize
     requires { i < 6 * g.now.h.n }
-    ensures { Loaded (seen g.now).scratch i result }
+    ensures { Word (seen g.now).scratch i result }
 {
-    load(&g.ws[g.h.scratch()], i)
+    load(&g.ws[g.h.scratch()], i) as usize
 }
 
 pub fn set_scratch(g: &mut GraphMut<'_>, i: usize, v: usize)
@@ -52,7 +53,7 @@ pub fn set_scratch(g: &mut GraphMut<'_>, i: usize, v: usize)
     ensures { Did (Lent scratch g.old.h.n g.old.h.m (Stored i v)) g.old g.new }
 {
     let h = g.h;
-    store(&mut g.ws[h.scratch()], i, v);
+    store(&mut g.ws[h.scratch()], i, v as u32);
 }
 
 // Whether the scratch part is 0.
@@ -71,15 +72,15 @@ pub fn clear_scratch(g: &mut GraphMut<'_>)
 }
 
 // Word i of the work area of the sort.
-pub fn work(g: &Graph<'_>, i: usize) -> usize
+pub fn work(g: &Graph<'_>, i: usize) -> u32
     requires { i < 2 * g.now.h.n }
-    ensures { Loaded (seen g.now).sorting i result }
+    ensures { Word (seen g.now).sorting i result }
 {
     load(&g.ws[g.h.sorting()], i)
 }
 
-pub fn set_work(g: &mut GraphMut<'_>, i: usize, v: usize)
-    requires { (i < 2 * g.old.h.n) × (v < 2 ^ 32) }
+pub fn set_work(g: &mut GraphMut<'_>, i: usize, v: u32)
+    requires { i < 2 * g.old.h.n }
     ensures { Did (Lent sorting g.old.h.n g.old.h.m (Stored i v)) g.old g.new }
 {
     let h = g.h;

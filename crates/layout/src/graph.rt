@@ -1,6 +1,6 @@
 // A graph as it is read, and as it is written: the words that are lent, and a head beside them.
-// That the head is the one which stands in the words (`HeadStands`, `HeadStood`), or that it says clean, is asked of the few steps that rest on it, and is no fact of
-// these types: within a call the head is ahead of the words.
+// That the head is the one which stands in the words (`HeadStands`, `HeadStood`), or that it says clean, is asked of the few steps that rest on it, and is no
+// fact of these types: within a call the head is ahead of the words.
 ghost use Rattle.std.specs.Prelude.{◌≡◌, length};
 ghost use Rattle.layout.specs.Head.{HeadOk};
 

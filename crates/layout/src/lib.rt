@@ -21,7 +21,7 @@ pub mod arrays; // arrays.rt: the parts that are plain arrays
 mod graph; // graph.rt: a graph as it is read, and as it is written
 mod ranges; // ranges.rt: where each part lies
 
-ghost use Rattle.std.specs.Prelude.{◌≡◌, ◌≤◌, length};
+ghost use Rattle.std.specs.Prelude.{◌≡◌, ◌≤◌, length, SomeIff};
 ghost use Rattle.lists.specs.Tests.{Says};
 ghost use Rattle.layout.specs.Cut.{need as needed};
 ghost use Rattle.layout.specs.View.{hd};
@@ -54,6 +54,23 @@ pub struct Head {
     pub clean: bool,
 }
 
+impl Head {
+    // The numbers of a graph without ids.
+    pub fn fresh(n: usize, m: usize) -> Head
+        ensures { result ≡ fresh_numbers n m }
+    {
+        Head {
+            n,
+            m,
+            ids: 0,
+            places: 0,
+            depth: 0,
+            classes: 0,
+            clean: false,
+        }
+    }
+}
+
 // The words that the limits need.
 pub fn need(n: usize, m: usize) -> usize
     requires { (n ≤ 65536) × (m ≤ 262144) }
@@ -67,6 +84,17 @@ pub fn limits_fit(n: usize, m: usize) -> bool
     ensures { Says result ((1 ≤ n) × (n ≤ 65536) × (m ≤ 262144)) }
 {
     (1..=MAX_IDS).contains(&n) && m <= MAX_PLACES
+}
+
+// How many words the limits need, if they are in range.
+pub fn words_for(n: usize, m: usize) -> Option<usize>
+    ensures { SomeIff result ((1 ≤ n) × (n ≤ 65536) × (m ≤ 262144)) (needed n m) }
+{
+    if limits_fit(n, m) {
+        Some(need(n, m))
+    } else {
+        None
+    }
 }
 
 // Whether the numbers are in range, and `len` words are as many as the limits need.
@@ -126,14 +154,5 @@ pub fn fresh_head(ws: &mut [u32], n: usize, m: usize)
     ensures { Noted ws.old ws.new (fresh_head n m) }
 {
     ws[..HEAD_WORDS].fill(0);
-    let h = Head {
-        n,
-        m,
-        ids: 0,
-        places: 0,
-        depth: 0,
-        classes: 0,
-        clean: false,
-    };
-    write_head(ws, h);
+    write_head(ws, Head::fresh(n, m));
 }

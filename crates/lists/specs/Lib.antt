@@ -1,5 +1,4 @@
 pub mod Tests
-pub mod Options
 pub mod Members
 pub mod Reads
 pub mod Relabel

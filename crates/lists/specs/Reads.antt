@@ -1,6 +1,6 @@
--- What stands at an index of a list: `at` for words, and the laws of `get_or` that the library lacks.
+-- What stands at an index of a list: `at` for words, `Word` for a word that is read, and the laws of `get_or` that the library lacks.
 -- Assumes nothing.
-use Rattle.std.specs.Prelude.{List, [], ◌++◌, ◌∷◌, map, reverse, ◌≢◌, ◌⊎◌, ◌≡◌, refl, ◌+◌, ◌<◌, ◌≤◌, suc, zero, ℕ, get_or, length, replicate, set, take}
+use Rattle.std.specs.Prelude.{List, [], ◌++◌, ◌∷◌, map, reverse, ◌≢◌, ◌⊎◌, ◌≡◌, refl, ◌+◌, ◌<◌, ◌^◌, ◌≤◌, suc, zero, ℕ, get_or, length, replicate, set, take}
 use Rattle.std.proofs.lemmas.List.{reverse-append}
 use Rattle.std.proofs.Common.{inl, inr, ⊎_elim, ◌∙◌, ap, subst, sym, suc-le-suc, zero-le, arith, length-append, get_or-append-add, get_or-set_other, get_or-set_same, take-suc}
 use Rattle.std.proofs.Math.Decide.{dec_lt}
@@ -11,6 +11,11 @@ use Rattle.lists.specs.Tests.{eq_or}
 -- the word at i, and 0 past the end
 abbrev pub at : List ℕ → ℕ → ℕ
 at l i = get_or l i 0
+
+-- r is the word at i
+pub record Word (ws : List ℕ) (i r : ℕ) : Type 0 where
+  pub exact : r ≡ at ws i
+  pub small : r < 2 ^ 32
 
 pub at_left : (xs ys : List ℕ) (i : ℕ) → i < length xs → at (xs ++ ys) i ≡ at xs i
 at_left xs ys i h = get_or-append xs ys 0 i h
@@ -66,12 +71,6 @@ module _ {A : Type 0} where
 pub get_or_map_lt : (f : ℕ → ℕ) (l : List ℕ) (p : ℕ) → p < length l → at (map f l) p ≡ f (at l p)
 get_or_map_lt f l p h = get_or_map_or f 0 l p (λ le. absurd (omega arith))
 
--- inside a list the default does not matter
-pub get_or_any : {A : Type 0} (l : List A) (i : ℕ) (d e : A) → i < length l → get_or l i d ≡ get_or l i e
-get_or_any [] i d e h = absurd (omega arith)
-get_or_any (x ∷ l) zero d e h = refl
-get_or_any (x ∷ l) (suc i) d e h = get_or_any l i d e (omega arith)
-
 -- the reverse of a list begins with its last member
 pub reverse_last : (l : List ℕ) (k : ℕ) → length l ≡ suc k → reverse l ≡ at l k ∷ reverse (take k l)
 reverse_last l k e = ap reverse whole ∙ reverse-append (take k l) (at l k ∷ [])
@@ -83,11 +82,6 @@ reverse_last l k e = ap reverse whole ∙ reverse-append (take k l) (at l k ∷ 
 pub map_at : (f g : ℕ → ℕ) (xs : List ℕ) → ((i : ℕ) → i < length xs → f (at xs i) ≡ g (at xs i)) → map f xs ≡ map g xs
 map_at f g [] h = refl
 map_at f g (x ∷ xs) h = let e : f x ≡ g x = h 0 (omega arith) in let t = map_at f g xs (λ i l. h (suc i) (omega arith)) in λ i. e i ∷ t i
-
-pub take_map : (f : ℕ → ℕ) (xs : List ℕ) (k : ℕ) → take k (map f xs) ≡ map f (take k xs)
-take_map f xs zero = refl
-take_map f [] (suc k) = refl
-take_map f (x ∷ xs) (suc k) = ap (λ (l : List ℕ). f x ∷ l) (take_map f xs k)
 
 -- copies of what is read past the end: so it reads everywhere
 pub get_or_copies : {A : Type 0} (n i : ℕ) (d : A) → get_or (replicate n d) i d ≡ d

@@ -3,7 +3,8 @@
 // only where a part is lent is it unwrapped, and what the leaf answers is wrapped again. What else goes together, as
 // `stay` and `lose`, an id and its node, a node and its key, stays apart: what is asked of them is asked of them and the graph, so that a struct could hold no
 // more than that the two differ, or count the same. `on_members` and `on_uses`, and `clear` of three parts, differ in the part, its number of cells and whether
-// a cell is an id: a function for all would be given these three at every call, and each here is one line with the leaf's promise.
+// a cell is an id. A trait with these three would have each promise speak of the part by its ghost members, and a caller name the part as a type at each call,
+// in place of one line here with the leaf's promise.
 #![tactic(auto)]
 
 pub mod on_forest;

@@ -2,10 +2,11 @@
 ghost use Rattle.std.specs.Prelude.{◌*◌, ◌<◌, ◌≤◌, length};
 ghost use Rattle.layout.specs.Cut.{sorting};
 ghost use Rattle.layout.specs.Seen.{seen};
-ghost use Rattle.layout.specs.Lent.{Lent, Loaded, Stored};
+ghost use Rattle.layout.specs.Lent.{Lent, Stored};
 ghost use Rattle.layout.specs.Did.{Did};
 ghost use Rattle.layout.specs.Both.{LentBoth};
 ghost use Rattle.sorting.specs.Promise.{Sorts};
+ghost use Rattle.lists.specs.Reads.{Word};
 
 use broken::Broken;
 use language::Id;
@@ -14,10 +15,9 @@ use layout::{Graph, GraphMut};
 // The id that stands in word i of the work area.
 pub fn work(g: &Graph<'_>, i: usize) -> Id
     requires { i < 2 * g.now.h.n }
-    ensures { Loaded (seen g.now).sorting i result.0 }
+    ensures { Word (seen g.now).sorting i result.0 }
 {
-    let id = layout::work(g, i);
-    Id(id as u32)
+    Id(layout::work(g, i))
 }
 
 // An id into word i of the work area.
@@ -25,7 +25,7 @@ pub fn set_work(g: &mut GraphMut<'_>, i: usize, id: Id)
     requires { i < 2 * g.old.h.n }
     ensures { Did (Lent sorting g.old.h.n g.old.h.m (Stored i id.0)) g.old g.new }
 {
-    layout::set_work(g, i, id.0 as usize);
+    layout::set_work(g, i, id.0);
 }
 
 // The first k words of the work area sorted by the keys of the ids that stand there; the stored nodes are lent with it, and stay as they are.

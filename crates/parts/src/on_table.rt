@@ -4,8 +4,7 @@ ghost use Rattle.layout.specs.Cut.{table};
 ghost use Rattle.layout.specs.Seen.{seen};
 ghost use Rattle.layout.specs.Lent.{Lent};
 ghost use Rattle.layout.specs.Did.{Did};
-ghost use Rattle.language.specs.Term.{places};
-ghost use Rattle.language.specs.Struct.{node_of};
+ghost use Rattle.language.specs.Fitting.{term};
 ghost use Rattle.table.specs.Asking.{Answers};
 ghost use Rattle.table.specs.Entering.{Entered};
 ghost use Rattle.table.specs.Leaving.{Departed};
@@ -13,15 +12,14 @@ ghost use Rattle.cells.specs.Empty.{Cleared};
 
 use super::on_rows::nodes;
 use broken::Broken;
-use language::{Id, Node};
+use language::{Fit, Id};
 use layout::{Graph, GraphMut};
 
 // The id in the table that has this key.
-pub fn ask(g: &Graph<'_>, node: Node) -> Result<Option<Id>, Broken>
-    requires { node.count ≤ places }
-    ensures { Answers (seen g.now).table (seen g.now).rows g.now.h.n g.now.h.m (node_of node) result }
+pub fn ask(g: &Graph<'_>, key: Fit) -> Result<Option<Id>, Broken>
+    ensures { Answers (seen g.now).table (seen g.now).rows g.now.h.n g.now.h.m (term key) result }
 {
-    table::ask(&g.ws[g.h.table()], &nodes(g), node)
+    table::ask(&g.ws[g.h.table()], &nodes(g), key)
 }
 
 // An id goes into a bucket.

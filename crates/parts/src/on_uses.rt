@@ -5,8 +5,8 @@ ghost use Rattle.layout.specs.Seen.{seen};
 ghost use Rattle.layout.specs.Lent.{Lent};
 ghost use Rattle.layout.specs.Did.{Did};
 ghost use Rattle.cells.specs.Changes.{Pushed, Joined};
-ghost use Rattle.cells.specs.Reading.{Word};
 ghost use Rattle.cells.specs.Empty.{Cleared};
+ghost use Rattle.lists.specs.Reads.{Word};
 
 use broken::Broken;
 use cells::Pool;

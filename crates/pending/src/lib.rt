@@ -8,6 +8,7 @@
 // The depth, which is the number of entries, is the caller's to keep. To take the id pushed last, the caller asks for the `top`. One id: the depth
 // falls by one. A stretch: the id is the owner of its last place, and `push_stretch` at the depth below puts the stretch without that place there.
 // So the depth comes beside the words: it stands in the head, which is another part. What the words stand for is specs/Moves.antt's `Pending`.
+// Ids, places and counts are numbers here, as a caller has them to index with; that one fits a word is asked where it is stored, here and in the other parts.
 #![tactic(auto)]
 
 ghost use Rattle.std.specs.Prelude.{◌+◌, ◌≤◌, ◌<◌, ◌^◌, length};
@@ -22,7 +23,7 @@ pub enum OnTop<I> {
 
 // The entry (x, count) on top of `depth` entries.
 fn push(ps: &mut [u32], depth: usize, x: usize, count: usize)
-    requires { (depth + depth + 1 < length ps.old) × (length ps.old < 2 ^ 32) × (x < 2 ^ 32) × (count < 2 ^ 32) }
+    requires { (depth + depth + 1 < length ps.old) × (x < 2 ^ 32) × (count < 2 ^ 32) }
     ensures { Pushes ps.old depth x count ps.new }
 {
     let p = depth + depth;
@@ -32,7 +33,7 @@ fn push(ps: &mut [u32], depth: usize, x: usize, count: usize)
 
 // Pushes one id: the depth rises by one.
 pub fn push_one(ps: &mut [u32], depth: usize, id: usize)
-    requires { (depth + depth + 1 < length ps.old) × (length ps.old < 2 ^ 32) × (id < 2 ^ 32) }
+    requires { (depth + depth + 1 < length ps.old) × (id < 2 ^ 32) }
     ensures { Pushes ps.old depth id 0 ps.new }
 {
     push(ps, depth, id, 0);
@@ -40,7 +41,7 @@ pub fn push_one(ps: &mut [u32], depth: usize, id: usize)
 
 // Pushes the stretch of `count` places that ends at `last`, if it has any, and answers the depth afterwards.
 pub fn push_stretch(ps: &mut [u32], depth: usize, last: usize, count: usize) -> usize
-    requires { (depth + depth + 1 < length ps.old) × (length ps.old < 2 ^ 32) × (last < 2 ^ 32) × (count < 2 ^ 32) }
+    requires { (depth + depth + 1 < length ps.old) × (last < 2 ^ 32) × (count < 2 ^ 32) }
     ensures { PushesStretch ps.old depth last count result ps.new }
 {
     if count == 0 {
@@ -52,7 +53,7 @@ pub fn push_stretch(ps: &mut [u32], depth: usize, last: usize, count: usize) -> 
 
 // The entry pushed last: an id; or the last place and the count of a stretch.
 pub fn top(ps: &[u32], depth: usize) -> OnTop<usize>
-    requires { (0 < depth) × (depth + depth ≤ length ps.now) × (length ps.now < 2 ^ 32) }
+    requires { (0 < depth) × (depth + depth ≤ length ps.now) }
     ensures { Tops ps.now depth result }
 {
     let below = depth - 1;

@@ -9,13 +9,13 @@ use Rattle.std.proofs.Math.Decide.{ℕ_discrete}
 use native.Mathlib.Omega.{arith}
 use Rattle.std.proofs.Math.ListN.{length}
 use Rattle.lists.specs.Members.{Mem, here, mem-cases, mem-nil, minus, minus_has, minus_lt, there}
-use Rattle.lists.specs.Options.{none≢some, some_inj}
 use Rattle.lists.specs.Tests.{when, when_no, when_yes}
 use Rattle.language.specs.Term.{Term}
 use Rattle.price.specs.Least.{each_under}
 use Rattle.price.specs.Pass.{Best, Table, after, best, look, prices}
 use Rattle.price.specs.Reads.{AtMost, Priced, TurnsKeep, Under, after_keeps, best_from, look_here, look_nil, look_past, priced_from, prices_from, push_under}
 use Rattle.price.specs.Rule.{Each, Rule, same_le}
+use Rattle.std.proofs.lemmas.Option.{none-some, same_Some}
 
 -- when the entry of class r was taken: how many entries are older
 unfoldable pub age : {P : Type 0} → ℕ → Table P → ℕ
@@ -33,7 +33,7 @@ module _ {P : Type 0} where
 
   age_lt : (r : ℕ) (t : Table P) (b : Best P) → look r t ≡ Some b → age r t < length t
   unfolding age look
-  age_lt r [] b e = absurd (none≢some e)
+  age_lt r [] b e = absurd (none-some _ e)
   age_lt r (x ∷ t) b e = go (ℕ_discrete r x.0) e (age_lt r t b)
     where
       go : (d : Dec (r ≡ x.0)) → when d (Some x.1) (look r t) ≡ Some b → (look r t ≡ Some b → age r t < length t) → when d (length t) (age r t) < suc (length t)
@@ -55,11 +55,11 @@ module _ {P : Type 0} (R : Rule P) where
   sooner_trans a b c k m n (inr h) (inr j) = inr (R.trans a.price b.price c.price h.0 j.0, omega (arith, h.1, j.1))
 
   pub sooner_in_trans : (t : Table P) (p q r : ℕ) → SoonerIn t p q → SoonerIn t q r → SoonerIn t p r
-  sooner_in_trans t p q r h k = let z : h.1 ≡ k.0 = some_inj (sym h.3 ∙ k.2) in
+  sooner_in_trans t p q r h k = let z : h.1 ≡ k.0 = same_Some _ _ (sym h.3 ∙ k.2) in
       (h.0, k.1, h.2, k.3, sooner_trans h.0 h.1 k.1 (age p t) (age q t) (age r t) h.4 (rw z k.4))
 
   pub sooner_in_self : (t : Table P) (r : ℕ) → SoonerIn t r r → ⊥
-  sooner_in_self t r h = go (rw (some_inj (sym h.2 ∙ h.3)) at h.4)
+  sooner_in_self t r h = go (rw (same_Some _ _ (sym h.2 ∙ h.3)) at h.4)
     where
       go : Sooner h.1 (age r t) h.1 (age r t) → ⊥
       go (inl n) = n (same_le R h.1.price)
@@ -95,7 +95,7 @@ module _ {P : Type 0} (R : Rule P) (nodes : ℕ → List Term) where
           (k.0, (k.1.0, each_under R t ((r, b) ∷ t) up b.node.kids k.1.0 (exact t b.node.kids k.1.0 k.1.1), k.1.2))
 
       go : Dec (q ≡ r) → Mem a.node (nodes q) × ((ps : List P) × Each (AtMost R ((r, b) ∷ t)) a.node.kids ps × (R.of a.node.op a.node.payload ps ≡ a.price))
-      go (yes i) = let z : b ≡ a = some_inj (sym (look_here r b t) ∙ rw i at h) in rw (← z, i) now
+      go (yes i) = let z : b ≡ a = same_Some _ _ (sym (look_here r b t) ∙ rw i at h) in rw (← z, i) now
       go (no n) = let k = B q a (sym (look_past q r b t n) ∙ h) in (k.0, (k.1.0, each_under R t ((r, b) ∷ t) up a.node.kids k.1.0 k.1.1, k.1.2))
 
   pub backed : (rs : List ℕ) (n : ℕ) → Backed (after R nodes rs n [])
@@ -130,7 +130,7 @@ module _ {P : Type 0} (R : Rule P) (nodes : ℕ → List Term) where
 
       -- an older one, whose child c has got the new entry
       cheaper : (z : Best P) → SoonerIn R t r q → look q t ≡ Some z → ¬ R.Le z.price b.price
-      cheaper z k i le = past (rw (some_inj (sym k.3 ∙ i)) at k.4)
+      cheaper z k i le = past (rw (same_Some _ _ (sym k.3 ∙ i)) at k.4)
         where
           past : Sooner R k.0 (age r t) z (age q t) → ⊥
           past (inl n) = n (R.trans z.price b.price k.0.price le (R.total k.0.price b.price (low k.0 k.2)))
@@ -141,7 +141,7 @@ module _ {P : Type 0} (R : Rule P) (nodes : ℕ → List Term) where
       old n i (no l) k = (k.0, k.1, look_past c r b t l ∙ k.2, look_past q r b t n ∙ k.3, rw (age_past c r b t l, age_past q r b t n) k.4)
 
       go : Dec (q ≡ r) → SoonerIn R ((r, b) ∷ t) c q
-      go (yes i) = let z : b ≡ a = some_inj (sym (look_here r b t) ∙ rw i at h) in rw i (new c (rw z m))
+      go (yes i) = let z : b ≡ a = same_Some _ _ (sym (look_here r b t) ∙ rw i at h) in rw i (new c (rw z m))
       go (no n) = let i : look q t ≡ Some a = sym (look_past q r b t n) ∙ h in old n i (ℕ_discrete c r) (K q a c i m)
 
   pub ranked : (rs : List ℕ) (n : ℕ) → Ranked (after R nodes rs n [])

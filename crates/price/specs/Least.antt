@@ -8,13 +8,13 @@ use Prim.Native.Nat.{◌<◌, ◌≤◌, suc, zero, ℕ}
 use Rattle.std.proofs.Math.Decide.{ℕ_discrete}
 use Rattle.std.proofs.Math.ListN.{length}
 use Rattle.lists.specs.Members.{Mem, here, mem-cases, mem-nil, minus, minus_has, minus_lt, minus_not, there}
-use Rattle.lists.specs.Options.{some_inj}
 use Rattle.lists.specs.Tests.{when_yes}
 use Rattle.language.specs.Term.{Term}
 use Rattle.price.specs.Form.{Form, Forms, In, InEach, ◌then◌, form, in_map, no_form}
 use Rattle.price.specs.Pass.{Best, Table, accept, after, best, final, look, pass, priced, prices, turn}
 use Rattle.price.specs.Reads.{AtMost, Priced, TurnsKeep, Under, after_keeps, best_from, best_low, look_here, look_nil, look_past, pass_under, priced_from, prices_from, prices_low, turn_low, turn_under}
 use Rattle.price.specs.Rule.{Each, Rule, cost, costs, same_le}
+use Rattle.std.proofs.lemmas.Option.{same_Some}
 
 -- ---- forms
 
@@ -116,7 +116,7 @@ module _ {P : Type 0} (R : Rule P) (nodes : ℕ → List Term) where
   attained_keeps r b t e low A q a h = go (ℕ_discrete q r)
     where
       go : Dec (q ≡ r) → (f : Form) × In Has f q × (cost R f ≡ a.price)
-      go (yes i) = let z : b ≡ a = some_inj (sym (look_here r b t) ∙ rw i at h) in rw (← z, i) (proposed t A r b e)
+      go (yes i) = let z : b ≡ a = same_Some _ _ (sym (look_here r b t) ∙ rw i at h) in rw (← z, i) (proposed t A r b e)
       go (no n) = A q a (sym (look_past q r b t n) ∙ h)
 
   pub attained : (rs : List ℕ) (n : ℕ) → Attained (after R nodes rs n [])

@@ -7,16 +7,16 @@ use Rattle.std.proofs.Math.Path.{◌≡◌, ap, refl}
 use Prim.Native.Nat.{suc, zero, ℕ}
 use Rattle.std.proofs.Math.Decide.{ℕ_discrete}
 use Rattle.lists.specs.Members.{Mem, here, mem-cases, mem-nil, there}
-use Rattle.lists.specs.Options.{none≢some, some_inj}
 use Rattle.lists.specs.Tests.{when, when_no, when_yes}
 use Rattle.language.specs.Term.{Term}
 use Rattle.price.specs.Pass.{Best, Table, accept, after, best, better, look, pass, priced, prices, turn, with_price}
 use Rattle.price.specs.Rule.{Each, Rule, same_le}
+use Rattle.std.proofs.lemmas.Option.{none-some, same_Some}
 
 module _ {P : Type 0} where
   pub look_nil : (r : ℕ) (b : Best P) → look r [] ≡ Some b → ⊥
   unfolding look
-  look_nil r b e = none≢some e
+  look_nil r b e = none-some _ e
 
   pub look_here : (r : ℕ) (b : Best P) (t : Table P) → look r ((r, b) ∷ t) ≡ Some b
   unfolding look
@@ -33,14 +33,14 @@ module _ {P : Type 0} where
   pub prices_from : (t : Table P) (cs : List ℕ) (ps : List P) → prices t cs ≡ Some ps → Each (Priced t) cs ps
   unfolding prices with_price Each
   prices_from t [] [] e = tt
-  prices_from t [] (p ∷ ps) e = absurd (cons≢nil (sym (some_inj e)))
+  prices_from t [] (p ∷ ps) e = absurd (cons≢nil (sym (same_Some _ _ e)))
   prices_from t (c ∷ cs) ps e = go (look c t) (prices t cs) ps refl refl e (prices_from t cs)
     where
       go : (o : Option (Best P)) (m : Option (List P)) (qs : List P) → look c t ≡ o → prices t cs ≡ m → with_price o m ≡ Some qs
           → ((ss : List P) → prices t cs ≡ Some ss → Each (Priced t) cs ss) → Each (Priced t) (c ∷ cs) qs
-      go None m qs a k e ih = absurd (none≢some e)
-      go (Some b) None qs a k e ih = absurd (none≢some e)
-      go (Some b) (Some ss) [] a k e ih = absurd (cons≢nil (some_inj e))
+      go None m qs a k e ih = absurd (none-some _ e)
+      go (Some b) None qs a k e ih = absurd (none-some _ e)
+      go (Some b) (Some ss) [] a k e ih = absurd (cons≢nil (same_Some _ _ e))
       go (Some b) (Some ss) (q ∷ qs) a k e ih = ((b, a, cc e), ih qs (k ∙ ap Some (cc e)))
 
 module _ {P : Type 0} (R : Rule P) where
@@ -63,8 +63,8 @@ module _ {P : Type 0} (R : Rule P) where
 
   pub priced_from : (x : Term) (o : Option (List P)) (p : P) → priced R x o ≡ Some p → (ps : List P) × (o ≡ Some ps) × (R.of x.op x.payload ps ≡ p)
   unfolding priced
-  priced_from x None p e = absurd (none≢some e)
-  priced_from x (Some ps) p e = (ps, refl, some_inj e)
+  priced_from x None p e = absurd (none-some _ e)
+  priced_from x (Some ps) p e = (ps, refl, same_Some _ _ e)
 
   -- b is one of the nodes xs, at its price
   abbrev pub IsOf : Table P → List Term → Best P → Type 0
@@ -72,7 +72,7 @@ module _ {P : Type 0} (R : Rule P) where
 
   pub best_from : (t : Table P) (xs : List Term) (b : Best P) → best R t xs ≡ Some b → IsOf t xs b
   unfolding best better
-  best_from t [] b e = absurd (none≢some e)
+  best_from t [] b e = absurd (none-some _ e)
   best_from t (x ∷ xs) b e = go (priced R x (prices t x.kids)) (best R t xs) refl e (best_from t xs b)
     where
       past : IsOf t xs b → IsOf t (x ∷ xs) b
@@ -85,14 +85,14 @@ module _ {P : Type 0} (R : Rule P) where
       pick : (p : P) (a : Best P) (d : Dec (R.Le p a.price)) → priced R x (prices t x.kids) ≡ Some p
           → when d (Some (record { price = p; node = x })) (Some a) ≡ Some b → (Some a ≡ Some b → IsOf t xs b)
           → IsOf t (x ∷ xs) b
-      pick p a (yes h) k q ih = first p k (some_inj q)
+      pick p a (yes h) k q ih = first p k (same_Some _ _ q)
       pick p a (no n) k q ih = past (ih q)
 
       go : (o : Option P) (m : Option (Best P)) → priced R x (prices t x.kids) ≡ o → better R x o m ≡ Some b
           → (m ≡ Some b → IsOf t xs b)
           → IsOf t (x ∷ xs) b
       go None m k q ih = past (ih q)
-      go (Some p) None k q ih = first p k (some_inj q)
+      go (Some p) None k q ih = first p k (same_Some _ _ q)
       go (Some p) (Some a) k q ih = pick p a (R.test p a.price) k q ih
 
   -- and none is cheaper
@@ -109,16 +109,16 @@ module _ {P : Type 0} (R : Rule P) where
       pick q a (no n) (inr k) = (a, refl, k)
 
       same : (q : P) → priced R y (prices t y.kids) ≡ Some q → x ≡ y → R.Le q p
-      same q k i = let z : p ≡ q = some_inj (sym e ∙ (ap (λ n. priced R n (prices t n.kids)) i ∙ k)) in rw z (same_le R q)
+      same q k i = let z : p ≡ q = same_Some _ _ (sym e ∙ (ap (λ n. priced R n (prices t n.kids)) i ∙ k)) in rw z (same_le R q)
 
       go : (o : Option P) (m : Option (Best P)) → priced R y (prices t y.kids) ≡ o → (x ≡ y) ⊎ Mem x ys → (Mem x ys → (b : Best P) × (m ≡ Some b) × R.Le b.price p)
           → (b : Best P) × (better R y o m ≡ Some b) × R.Le b.price p
-      go None m k (inl i) ih = absurd (none≢some (sym k ∙ (sym (ap (λ n. priced R n (prices t n.kids)) i) ∙ e)))
+      go None m k (inl i) ih = absurd (none-some _ (sym k ∙ (sym (ap (λ n. priced R n (prices t n.kids)) i) ∙ e)))
       go None m k (inr h) ih = ih h
       go (Some q) None k (inl i) ih = (record { price = q; node = y }, refl, same q k i)
-      go (Some q) None k (inr h) ih = absurd (none≢some (ih h).1)
+      go (Some q) None k (inr h) ih = absurd (none-some _ (ih h).1)
       go (Some q) (Some a) k (inl i) ih = pick q a (R.test q a.price) (inl (same q k i))
-      go (Some q) (Some a) k (inr h) ih = let b = ih h in pick q a (R.test q a.price) (inr (rw (some_inj b.1) b.2))
+      go (Some q) (Some a) k (inr h) ih = let b = ih h in pick q a (R.test q a.price) (inr (rw (same_Some _ _ b.1) b.2))
 
   -- ---- what is taken is strictly less than what was there
 
@@ -142,12 +142,12 @@ module _ {P : Type 0} (R : Rule P) (nodes : ℕ → List Term) where
     accept_keeps : (r : ℕ) (t : Table P) (o m : Option (Best P)) → look r t ≡ o → best R t (nodes r) ≡ m → Q t → Q (accept R r o m t)
     unfolding accept
     accept_keeps r t o None e k h = h
-    accept_keeps r t None (Some b) e k h = K r b t k (λ a q. absurd (none≢some (sym e ∙ q))) h
+    accept_keeps r t None (Some b) e k h = K r b t k (λ a q. absurd (none-some _ (sym e ∙ q))) h
     accept_keeps r t (Some a) (Some b) e k h = go (R.test a.price b.price)
       where
         go : (d : Dec (R.Le a.price b.price)) → Q (when d t ((r, b) ∷ t))
         go (yes l) = h
-        go (no n) = K r b t k (λ c q. rw (some_inj (sym q ∙ e)) n) h
+        go (no n) = K r b t k (λ c q. rw (same_Some _ _ (sym q ∙ e)) n) h
 
     pub turn_keeps : (r : ℕ) (t : Table P) → Q t → Q (turn R nodes r t)
     unfolding turn

@@ -8,7 +8,6 @@ use Rattle.std.proofs.Math.Path.{ap, refl}
 use Prim.Native.Nat.{◌<◌, suc, zero, ℕ}
 use Rattle.std.proofs.Math.Decide.{ℕ_discrete}
 use Rattle.lists.specs.Members.{Mem, here, mem-cases, mem-nil, there}
-use Rattle.lists.specs.Options.{none≢some, some_inj}
 use Rattle.lists.specs.Tests.{when, when_no, when_yes, zero_one}
 use Rattle.language.specs.Term.{Term}
 use Rattle.steps.specs.Graph.{node}
@@ -20,12 +19,13 @@ use Rattle.price.specs.Listing.{Listing, Once, StandsAt, cheapest, each, enter, 
 use Rattle.price.specs.Pass.{Best, Table, final, look}
 use Rattle.price.specs.Reads.{AtMost}
 use Rattle.price.specs.Rule.{Each, Rule, cost, costs}
+use Rattle.std.proofs.lemmas.Option.{none-some, same_Some}
 
 -- ---- places
 
 spot_nil : (c p : ℕ) → spot c [] ≡ Some p → ⊥
 unfolding spot
-spot_nil c p e = none≢some e
+spot_nil c p e = none-some _ e
 
 pub spot_here : (c : ℕ) (x : Term) (l : Listing) → spot c ((c, x) ∷ l) ≡ Some (length l)
 unfolding spot
@@ -45,7 +45,7 @@ entry_past p c x l n = when_no (ℕ_discrete p (length l)) (Some x) (entry p l) 
 
 pub entry_lt : (p : ℕ) (l : Listing) (x : Term) → entry p l ≡ Some x → p < length l
 unfolding entry
-entry_lt p [] x e = absurd (none≢some e)
+entry_lt p [] x e = absurd (none-some _ e)
 entry_lt p (y ∷ l) x e = go (ℕ_discrete p (length l)) e (entry_lt p l x)
   where
     go : (d : Dec (p ≡ length l)) → when d (Some y.1) (entry p l) ≡ Some x → (entry p l ≡ Some x → p < length l) → p < suc (length l)
@@ -60,11 +60,11 @@ in_order_length (e ∷ l) = omega (arith, length-append (in_order l) (e.1 ∷ []
 
 pub in_order_at : (p : ℕ) (l : Listing) (x : Term) → entry p l ≡ Some x → node (in_order l) p ≡ x
 unfolding entry in_order
-in_order_at p [] x e = absurd (none≢some e)
+in_order_at p [] x e = absurd (none-some _ e)
 in_order_at p (y ∷ l) x e = go (ℕ_discrete p (length l)) e (in_order_at p l x)
   where
     go : (d : Dec (p ≡ length l)) → when d (Some y.1) (entry p l) ≡ Some x → (entry p l ≡ Some x → node (in_order l) p ≡ x) → node (in_order l ++ (y.1 ∷ [])) p ≡ x
-    go (yes q) k ih = let i : p ≡ length (in_order l) = omega (arith, in_order_length l) in rw i (node_new (in_order l) y.1 ∙ some_inj k)
+    go (yes q) k ih = let i : p ≡ length (in_order l) = omega (arith, in_order_length l) in rw i (node_new (in_order l) y.1 ∙ same_Some _ _ k)
     go (no n) k ih = node_old (in_order l) y.1 p (omega (arith, entry_lt p l x k, in_order_length l)) ∙ ih k
 
 -- what is listed in l is listed in m, at the same place
@@ -81,7 +81,7 @@ extends_trans a b = record { stands = λ p x h. b.stands p x (a.stands p x h); s
 pub extends_more : (r : ℕ) (x : Term) (l : Listing) → spot r l ≡ None → Extends l ((r, x) ∷ l)
 extends_more r x l e = record {
   stands = λ p y h. entry_past p r x l (λ i. out p y h i) ∙ h;
-  spots = λ c p h. spot_past c r x l (λ i. none≢some (sym e ∙ (sym (ap (λ q. spot q l) i) ∙ h))) ∙ h;
+  spots = λ c p h. spot_past c r x l (λ i. none-some _ (sym e ∙ (sym (ap (λ q. spot q l) i) ∙ h))) ∙ h;
 }
   where
     out : (p : ℕ) (y : Term) → entry p l ≡ Some y → p ≡ length l → ⊥
@@ -94,7 +94,7 @@ mutual
 
   pub one_form : (f g : Form) (l : Listing) (p : ℕ) → In (StandsAt l) f p → In (StandsAt l) g p → f ≡ g
   one_form (form o m fs) (form o' m' gs) l p h k =
-      let e : ◌≡◌ {A = Term} (record { op = o; payload = m; kids = h.0 }) (record { op = o'; payload = m'; kids = k.0 }) = some_inj (sym h.1 ∙ k.1) in
+      let e : ◌≡◌ {A = Term} (record { op = o; payload = m; kids = h.0 }) (record { op = o'; payload = m'; kids = k.0 }) = same_Some _ _ (sym h.1 ∙ k.1) in
       let t = one_forms fs gs l h.0 k.0 (ap (λ x. x.kids) e) h.2 k.2 in
       λ i. form (e i).op (e i).payload (t i)
 
@@ -147,7 +147,7 @@ module _ {P : Type 0} (R : Rule P) (nodes : ℕ → List Term) (t : Table P) (B 
       let s = w c (here refl) in
       let f = F.shown c s.0 s.1 in
       let k = kids_shown l F cs ps (λ d m. w d (there m)) h.1 in
-      let z : f.1 ≡ h.0.0 = some_inj (sym f.2 ∙ h.0.1) in
+      let z : f.1 ≡ h.0.0 = same_Some _ _ (sym f.2 ∙ h.0.1) in
       let le : R.Le f.1.price p = rw z h.0.2 in
       let i : spot_of l c ≡ s.0 = ap or_zero s.1 in
       (f.0 then k.0, (f.3, k.1), (rw i f.4, k.2), (R.trans (cost R f.0) f.1.price p f.5 le, k.3))
@@ -175,7 +175,7 @@ module _ {P : Type 0} (R : Rule P) (nodes : ℕ → List Term) (t : Table P) (B 
           )
 
       go : (c p : ℕ) → spot c ((r, with_places l b.node) ∷ l) ≡ Some p → Dec (c ≡ r) → Shown ((r, with_places l b.node) ∷ l) c p
-      go c p h (yes i) = let z : length l ≡ p = some_inj (sym (spot_here r (with_places l b.node) l) ∙ rw i at h) in rw (i, ← z) new
+      go c p h (yes i) = let z : length l ≡ p = same_Some _ _ (sym (spot_here r (with_places l b.node) l) ∙ rw i at h) in rw (i, ← z) new
       go c p h (no k) = shown_more X c p (F.shown c p (sym (spot_past c r (with_places l b.node) l k) ∙ h))
 
   -- what listing r does to l
@@ -225,7 +225,7 @@ module _ {P : Type 0} (R : Rule P) (nodes : ℕ → List Term) (t : Table P) (B 
 
       -- r is not among what its children list
       never : Listed l r ⊎ ((c : ℕ) × Mem c b.node.kids × Under r c) → ⊥
-      never (inl h) = none≢some (sym n ∙ h.1)
+      never (inl h) = none-some _ (sym n ∙ h.1)
       never (inr h) = sooner_in_self R t r (below r h.0 h.1 h.2)
 
       is_none : (o : Option ℕ) → spot r m ≡ o → o ≡ None
@@ -272,8 +272,8 @@ module _ {P : Type 0} (R : Rule P) (nodes : ℕ → List Term) (rs : List ℕ) (
       let s = last R nodes t (length rs) r D in
       let w = A.fine.shown r s.0 s.1 in
       let low = L r w.0 w.3 in
-      let i : w.1 ≡ b = some_inj (sym w.2 ∙ e) in
-      let j : low.0 ≡ b = some_inj (sym low.1 ∙ e) in
+      let i : w.1 ≡ b = same_Some _ _ (sym w.2 ∙ e) in
+      let j : low.0 ≡ b = same_Some _ _ (sym low.1 ∙ e) in
       let le : R.Le (cost R w.0) b.price = subst (λ (z : Best P). R.Le (cost R w.0) z.price) i w.5 in
       let ge : R.Le b.price (cost R w.0) = subst (λ (z : Best P). R.Le z.price (cost R w.0)) j low.2 in
       (w.0, s.0, s.2, w.4, w.3, le, ge, A.fine.once)

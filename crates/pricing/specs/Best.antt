@@ -1,32 +1,29 @@
 -- The best node of a class by the prices in the scratch part: `choose`, `better` and `class_best` promise what `better` and `best` of Pass (price) say. The nodes of
 -- a class are walked from the last back, so a node that is met is better than what was met before it if its price is no greater.
 -- Assumes nothing.
-use Rattle.std.specs.Prelude.{None, Ok, Result, Some, ◌≡◌, length, IfSome, Option}
+use Rattle.std.specs.Prelude.{None, Ok, Result, Some, ◌≡◌, IfSome, Option, List, [], ◌∷◌, ◌++◌, Err}
 use Rattle.broken.specs.declared.Broken.{Broken}
 use Rattle.broken.specs.Words.{broken, err≢ok}
-use mathlib.Core.List.{[], ◌∷◌}
-use Rattle.std.proofs.Common.{◌∙◌, subst, sym}
+use Rattle.std.proofs.Common.{◌∙◌, subst, sym, append-nil, append_assoc, ap}
 use Rattle.std.proofs.Math.Path.{refl}
-use Prim.Native.Nat.{◌+◌, ◌-◌, ◌<◌, ◌^◌, ◌≤◌, min, suc, ℕ}
+use Prim.Native.Nat.{◌<◌, ◌^◌, ◌≤◌, min, ℕ}
 use Rattle.std.proofs.Math.Decide.{dec_le}
 use native.Mathlib.Omega.{arith}
-use Rattle.std.proofs.Math.ListN.{drop}
-use Rattle.std.proofs.Math.Seq.{drop-cons, drop-length}
 use Rattle.lists.specs.Tests.{when_no, when_yes, zero_one}
-use Rattle.language.specs.Struct.{node_of}
+use Rattle.language.specs.Fitting.{term}
 use Rattle.language.specs.Term.{Term}
 use Rattle.steps.specs.Classes.{class_nodes}
 use Rattle.steps.specs.Graph.{Graph, ids, key_of}
-use Rattle.egraph.specs.ClassReads.{ClassNodes, Classed, Known, Previous, RootNode, Stands, classed_kids, classed_node, stands_few, stands_known, stands_node}
-use Rattle.egraph.specs.declared.Cursor.{Cursor}
+use Rattle.egraph.specs.ClassReads.{Classed, RootNode, classed_kids, classed_node, Items, ItemsKnown, NamesBack, NodesOf}
 use Rattle.layout.specs.View.{View}
 use Rattle.layout.specs.declared.Head.{Head}
 use Rattle.price.specs.Pass.{Best, Table, best, better, priced, prices}
 use Rattle.price.specs.Size.{AstSize, cap}
 use Rattle.pricing.specs.Entries.{IdBelow, Means, Names, Prices}
-use Rattle.language.specs.declared.Node.{Node}
+use Rattle.language.specs.declared.fit.Fit.{Fit}
 use Rattle.pricing.specs.Node.{CostsNode}
 use Rattle.pricing.specs.declared.Entry.{Entry}
+use Rattle.language.specs.declared.Id.{Id}
 
 -- ---- one node against the best of those behind it
 
@@ -82,18 +79,18 @@ pub record Betters (h : Head) (id : ℕ) (b : Option Entry) (v : View) (r : Resu
   pub law : (g : Graph) (t : Table ℕ) (o : Option (Best ℕ)) → Classed h v g → Prices g h.n v.scratch t → id < ids g → Means g b o
       → (e : Option Entry) × (r ≡ Ok e) × Means g e (better_of t (key_of g id) o)
 
-module _ (h : Head) (id : ℕ) (b : Option Entry) (v : View) (f : Result Node Broken) (F : RootNode h v id f) where
+module _ (h : Head) (id : ℕ) (b : Option Entry) (v : View) (f : Result Fit Broken) (F : RootNode h v id f) where
   pub better_unread : f ≡ broken → Betters h id b v broken
   better_unread q = record { low = λ e p. err≢ok p; law = λ g t m C P lt M. absurd (F.lost q (classed_node C id lt).0) }
 
-  module _ (x : Node) (is : f ≡ Ok x) (c : Result (Option ℕ) Broken) (N : CostsNode h.n h.ids v.scratch (node_of x) c) where
+  module _ (x : Fit) (is : f ≡ Ok x) (c : Result (Option ℕ) Broken) (N : CostsNode h.n h.ids v.scratch (term x) c) where
     -- the price of the node, as the table gives it
     costs : (g : Graph) (t : Table ℕ) → Classed h v g → Prices g h.n v.scratch t → id < ids g
         → c ≡ Ok (priced AstSize (key_of g id) (prices t (key_of g id).kids))
     costs g t C P lt =
         let q = F.sound g C lt in
         let same : q.0 ≡ x = let s = q.1 in cc in
-        let e : node_of x ≡ key_of g id = rw (← same) q.2 in
+        let e : term x ≡ key_of g id = rw (← same) q.2 in
         subst (λ (y : Term). c ≡ Ok (priced AstSize y (prices t y.kids))) e (N.law g t P (rw e (classed_kids C id lt)))
 
     pub better_broken : c ≡ broken → Betters h id b v broken
@@ -131,67 +128,74 @@ pub record BestOf (h : Head) (a : ℕ) (v : View) (r : Result (Option Entry) Bro
   pub law : (g : Graph) (t : Table ℕ) → Classed h v g → Prices g h.n v.scratch t
       → (e : Option Entry) × (r ≡ Ok e) × Means g e (best AstSize t (class_nodes g a))
 
--- i steps back from the cursor `from`, of as many as it has left: of the class that `from` was at the end of, the nodes from the place of `cur` on are
--- behind, and b is the best of them
-pub record Walking (h : Head) (v : View) (from cur : Cursor) (i : ℕ) (b : Option Entry) : Type 0 where
-  pub passed : i + cur.left ≡ from.left
+-- the items `rest` name the nodes of class a that are still to come, and b is the best of those behind them
+pub record Behind (g : Graph) (t : Table ℕ) (a : ℕ) (rest : Items) (b : Option Entry) : Type 0 where
+  pub todo : List Term
+  pub done : List Term
+  pub whole : class_nodes g a ≡ todo ++ done
+  pub names : NamesBack g rest todo
+  pub means : Means g b (best AstSize t done)
+
+-- a walk over the nodes of class a from the last back, on its way
+pub record Walking (h : Head) (v : View) (a : ℕ) (rest : Items) (b : Option Entry) : Type 0 where
   pub low : IdBelow h.n b
-  pub known : Known h cur
-  pub stands : (a : ℕ) → Stands h v a from → Stands h v a cur
-  pub law : (a : ℕ) → Stands h v a from → (g : Graph) (t : Table ℕ) → Classed h v g → Prices g h.n v.scratch t → from.left ≡ length (class_nodes g a)
-      → Means g b (best AstSize t (drop cur.left (class_nodes g a)))
+  pub known : ItemsKnown h rest
+  pub law : (g : Graph) (t : Table ℕ) → Classed h v g → Prices g h.n v.scratch t → Behind g t a rest b
 
-module _ (h : Head) (v : View) (from : Cursor) where
-  pub walk_start : Known h from → Walking h v from from 0 None
-  unfolding best
-  walk_start k = record { passed = omega arith; low = tt; known = k; stands = λ a S. S; law = λ a S g t C P e. rw (e, drop-length (class_nodes g a)) tt }
+module _ (h : Head) (v : View) (a : ℕ) where
+  -- the walk that `class_nodes` starts
+  module _ (r : Result Items Broken) (N : NodesOf h v a r) where
+    pub best_unread : r ≡ broken → BestOf h a v broken
+    best_unread q = record { low = λ e p. err≢ok p; law = λ g t C P. absurd (N.sound q g C) }
 
-  -- there is a node at the cursor as long as fewer steps are made than there were nodes
-  pub walk_left : (cur : Cursor) (i : ℕ) (b : Option Entry) → Walking h v from cur i b → i < from.left → 0 < cur.left
-  walk_left cur i b W lt = omega (arith, W.passed)
-
-  module _ (cur : Cursor) (i : ℕ) (b : Option Entry) (W : Walking h v from cur i b) (lt : i < from.left)
-      (r : Result (Option Entry) Broken) (B : Betters h cur.id.0 b v r) where
-    -- the node at the cursor is looked at
-    looked : (a : ℕ) → Stands h v a from → (g : Graph) (t : Table ℕ) → Classed h v g → Prices g h.n v.scratch t → from.left ≡ length (class_nodes g a)
-        → (e : Option Entry) × (r ≡ Ok e) × Means g e (best AstSize t (drop (cur.left - 1) (class_nodes g a)))
+    pub walk_start : (xs : Items) → r ≡ Ok xs → Walking h v a xs None
     unfolding best
-    looked a F g t C P l =
-        let S = W.stands a F in
-        let s : suc (cur.left - 1) ≡ cur.left = omega (arith, W.passed) in
-        let d : drop (cur.left - 1) (class_nodes g a) ≡ key_of g cur.id.0 ∷ drop cur.left (class_nodes g a) =
-        drop-cons (class_nodes g a) (cur.left - 1) (record { op = 0; payload = 0; kids = [] }) (omega (arith, stands_few C a cur S)) ∙ rw (s, stands_node C a cur S (cur.left - 1) s) refl in
-        rw d (B.law g t (best AstSize t (drop cur.left (class_nodes g a))) C P (stands_known C a cur S (cur.left - 1) s) (W.law a F g t C P l))
-
-    pub walk_more : (o : Result Cursor Broken) → Previous h v cur o → (e : Option Entry) (to : Cursor) → r ≡ Ok e → o ≡ Ok to → Walking h v from to (i + 1) e
-    walk_more o O e to q p = record {
-      passed = omega (arith, W.passed, O.fewer to p);
-      low = B.low e q;
-      known = O.known to p;
-      stands = λ a S. O.stands to p a (W.stands a S);
-      law = λ a S g t C P l. let k = looked a S g t C P l in let z : e ≡ k.0 = cc (q, k.1) in rw (O.fewer to p, z) k.2;
+    walk_start xs e = record {
+      low = tt;
+      known = N.known xs e;
+      law = λ g t C P. record { todo = class_nodes g a; done = []; whole = sym (append-nil (class_nodes g a)); names = N.all xs e g C; means = tt };
     }
 
--- the walk that `class_nodes` starts
-module _ (h : Head) (a : ℕ) (v : View) (r : Result Cursor Broken) (N : ClassNodes h v a r) where
-  pub best_unread : r ≡ broken → BestOf h a v broken
-  best_unread q = record { low = λ e p. err≢ok p; law = λ g t C P. absurd (N.sound q g C) }
-
-  module _ (from : Cursor) (is : r ≡ Ok from) (cur : Cursor) (i : ℕ) (b : Option Entry) (W : Walking h v from cur i b) where
-    stood : Stands h v a from
-    stood = N.stands from is
-
-    pub best_broken : i < from.left → (o : Result (Option Entry) Broken) → Betters h cur.id.0 b v o → o ≡ broken → BestOf h a v broken
-    best_broken l o B q = record {
-      low = λ e p. err≢ok p;
-      law = λ g t C P. let k = looked h v from cur i b W l o B a stood g t C P (N.all from is g C) in err≢ok (sym q ∙ k.1);
-    }
-
-    pub best_lost : (o : Result Cursor Broken) → Previous h v cur o → o ≡ broken → BestOf h a v broken
-    best_lost o O q = record { low = λ e p. err≢ok p; law = λ g t C P. absurd (O.sound q a (W.stands a stood) g C) }
-
-    pub best_all : from.left ≤ i → BestOf h a v (Ok b)
-    best_all le = let z : cur.left ≡ 0 = omega (arith, W.passed) in record {
+  module _ (xs : Items) (b : Option Entry) (W : Walking h v a xs b) where
+    pub best_all : xs ≡ [] → BestOf h a v (Ok b)
+    best_all z = record {
       low = λ e p. let q : b ≡ e = cc in rw (← q) W.low;
-      law = λ g t C P. (b, refl, rw z at (W.law a stood g t C P (N.all from is g C)));
+      law = λ g t C P. (b, refl, let B = W.law g t C P in let n : B.todo ≡ [] = rw z at B.names in rw (B.whole, n) B.means);
     }
+
+    -- a refusal is no graph's
+    pub best_lost : (e : Broken) (rest : Items) → xs ≡ Err e ∷ rest → BestOf h a v broken
+    best_lost e rest z = record { low = λ e p. err≢ok p; law = λ g t C P. absurd (rw z at (W.law g t C P).names) }
+
+    -- the node of an id comes next, and is looked at
+    module _ (id : Id) (rest : Items) (z : xs ≡ Ok id ∷ rest) where
+      pub walk_known : id.0 < h.ids
+      walk_known = (rw z at W.known).0
+
+      module _ (r : Result (Option Entry) Broken) (B : Betters h id.0 b v r) where
+        looked : (g : Graph) (t : Table ℕ) → Classed h v g → Prices g h.n v.scratch t → (e : Option Entry) × (r ≡ Ok e) × Behind g t a rest e
+        unfolding best
+        looked g t C P =
+            let D = W.law g t C P in
+            let N : NamesBack g (Ok id ∷ rest) D.todo = rw z at D.names in
+            let L = B.law g t (best AstSize t D.done) C P N.2 D.means in (
+              L.0,
+              L.1,
+              record {
+                todo = N.0;
+                done = key_of g id.0 ∷ D.done;
+                whole = D.whole ∙ ap (λ (l : List Term). l ++ D.done) N.1 ∙ append_assoc N.0 (key_of g id.0 ∷ []) D.done;
+                names = N.3;
+                means = L.2;
+              },
+            )
+
+        pub walk_more : (e : Option Entry) → r ≡ Ok e → Walking h v a rest e
+        walk_more e q = record {
+          low = B.low e q;
+          known = (rw z at W.known).1;
+          law = λ g t C P. let k = looked g t C P in let s : e ≡ k.0 = cc (q, k.1) in rw s k.2;
+        }
+
+        pub best_broken : r ≡ broken → BestOf h a v broken
+        best_broken q = record { low = λ e p. err≢ok p; law = λ g t C P. let k = looked g t C P in err≢ok (sym q ∙ k.1) }

@@ -1,10 +1,10 @@
 -- How the listing of a cheapest form (Listing of price) stands in the scratch part, while it is made and when it is done: where each class is listed, and which class
 -- stands at each place. The prices and marks in front of it stay (Entries).
 -- Assumes nothing.
-use Rattle.std.specs.Prelude.{List, [], ◌∷◌, ◌≢◌, ◌≡◌, ◌*◌, ◌+◌, ◌-◌, ◌<◌, ◌^◌, ◌≤◌, suc, ℕ, length, Option, None, Some}
-use Rattle.std.proofs.Common.{◌∙◌, arith, sym}
+use Rattle.std.specs.Prelude.{List, [], ◌∷◌, ◌≢◌, ◌≡◌, ◌*◌, ◌+◌, ◌-◌, ◌<◌, ◌^◌, ◌≤◌, suc, ℕ, length, Option, None, Some, SomeIff}
+use Rattle.std.proofs.Common.{arith}
 use Rattle.std.proofs.Math.Decide.{ℕ_discrete}
-use Rattle.lists.specs.Reads.{at}
+use Rattle.lists.specs.Reads.{at, Word}
 use Rattle.lists.specs.Tests.{when, when_no, when_yes}
 use Rattle.language.specs.Term.{Term}
 use Rattle.price.specs.Listing.{Listing, spot}
@@ -32,11 +32,10 @@ pub record PlaceAt (n : ℕ) (ss : List ℕ) (c : ℕ) (r : Option ℕ) : Type 0
   pub is : place_word r ≡ at ss (3 * n + c)
   pub low : place_word r < 2 ^ 32
 
-pub place_at_none : (n : ℕ) (ss : List ℕ) (c w : ℕ) → w ≡ at ss (3 * n + c) → w ≡ 0 → PlaceAt n ss c None
-place_at_none n ss c w e z = record { is = sym z ∙ e; low = omega arith }
-
-pub place_at_some : (n : ℕ) (ss : List ℕ) (c w : ℕ) → w ≡ at ss (3 * n + c) → w < 2 ^ 32 → w ≢ 0 → PlaceAt n ss c (Some (w - 1))
-place_at_some n ss c w e low some = let s : suc (w - 1) ≡ w = omega arith in record { is = s ∙ e; low = omega arith }
+-- one less than the place word, where that is a place
+pub place_at_is : (n : ℕ) (ss : List ℕ) (c w : ℕ) → Word ss (3 * n + c) w → (r : Option ℕ) → SomeIff r (1 ≤ w) (w - 1) → PlaceAt n ss c r
+place_at_is n ss c w W None h = record { is = omega (arith, W.exact); low = omega arith }
+place_at_is n ss c w W (Some p) (l, e) = record { is = omega (arith, W.exact); low = omega (arith, W.small) }
 
 -- of the 6n scratch words: 3n + c is the place word of class c, 4n + p the class at place p
 pub record Laid (n : ℕ) (ss : List ℕ) (l : Listing) : Type 0 where

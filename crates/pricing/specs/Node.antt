@@ -6,22 +6,21 @@ use Rattle.broken.specs.declared.Broken.{Broken}
 use Rattle.broken.specs.Words.{broken}
 use Rattle.std.proofs.Common.{◌∙◌, ap, add-one, arith}
 use Rattle.std.proofs.Math.Path.{refl, sym}
-use Rattle.std.proofs.Math.ListN.{get_or-map, length-map}
 use Rattle.std.proofs.Math.Seq.{drop-cons, drop-length}
 use Rattle.lists.specs.Reads.{at}
-use Rattle.language.specs.Term.{Term}
+use Rattle.language.specs.Term.{Term, Known}
 use Rattle.language.specs.declared.Id.{Id}
 use Rattle.steps.specs.Graph.{Graph}
-use Rattle.egraph.specs.ClassReads.{KidsIn}
 use Rattle.price.specs.Adding.{add_on}
 use Rattle.price.specs.Pass.{Best, Table, look, priced, prices, with_price}
 use Rattle.price.specs.Size.{AstSize, Capped, cap}
 use Rattle.pricing.specs.Entries.{EntryAt, Means, Prices, entry_as}
 use Rattle.pricing.specs.declared.Entry.{Entry}
+use Rattle.language.specs.Children.{kid_is, many_kids}
 
 -- what `node_total_cost` promises
 pub record CostsNode (n N : ℕ) (ss : List ℕ) (x : Term) (r : Result (Option ℕ) Broken) : Type 0 where
-  pub law : (g : Graph) (t : Table ℕ) → Prices g n ss t → KidsIn N x → r ≡ Ok (priced AstSize x (prices t x.kids))
+  pub law : (g : Graph) (t : Table ℕ) → Prices g n ss t → Known x N → r ≡ Ok (priced AstSize x (prices t x.kids))
 
 -- the sum a, and the prices that are still to be added
 abbrev pub onto : ℕ → Option (List ℕ) → Option ℕ
@@ -30,7 +29,7 @@ onto a (Some ps) = Some (add_on Capped a ps)
 
 -- i children are added, and the sum of them is a
 pub record Adding (n N : ℕ) (ss : List ℕ) (x : Term) (i a : ℕ) : Type 0 where
-  pub law : (g : Graph) (t : Table ℕ) → Prices g n ss t → KidsIn N x → priced AstSize x (prices t x.kids) ≡ onto a (prices t (drop i x.kids))
+  pub law : (g : Graph) (t : Table ℕ) → Prices g n ss t → Known x N → priced AstSize x (prices t x.kids) ≡ onto a (prices t (drop i x.kids))
 
 priced_onto : (x : Term) (o : Option (List ℕ)) → priced AstSize x o ≡ onto 1 o
 unfolding priced
@@ -54,7 +53,7 @@ module _ (n N : ℕ) (ss : List ℕ) (x : Term) where
   -- ks are the children, as the loop goes over them
   module _ (ks : List Id) (e : map (λ (k : Id). k.0) ks ≡ x.kids) where
     many : length ks ≡ length x.kids
-    many = sym (length-map ks (λ (k : Id). k.0)) ∙ ap length e
+    many = many_kids x ks e
 
     -- the one at place i is in hand
     module _ (i : ℕ) (hi : i < length ks) where
@@ -63,7 +62,7 @@ module _ (n N : ℕ) (ss : List ℕ) (x : Term) where
 
       its : kid.0 ≡ at x.kids i
       unfolding kid
-      its = sym (get_or-map (λ (k : Id). k.0) ks i (record { 0 = 0 })) ∙ ap (λ (l : List ℕ). at l i) e
+      its = kid_is x ks e i
 
       pub cost_stray : N ≤ (get_or ks i (record { 0 = 0 })).0 → CostsNode n N ss x broken
       unfolding kid

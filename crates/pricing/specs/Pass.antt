@@ -1,7 +1,7 @@
 -- A pass over the classes in ascending root id: `pass` promises what `pass` of Pass (price) says. The code gives every id its turn; an id that is no root has no nodes,
 -- so its turn takes nothing, and the pass over all ids is the pass over the roots.
 -- Assumes nothing.
-use Rattle.std.specs.Prelude.{Ok, Result, ◌≡◌, ◌+◌, suc, ℕ, length}
+use Rattle.std.specs.Prelude.{Ok, Result, ◌≡◌, ◌+◌, suc, ℕ, Bool, false, ◌||◌}
 use Rattle.broken.specs.declared.Broken.{Broken}
 use Rattle.broken.specs.Words.{broken, err≢ok}
 use mathlib.Core.List.{List, [], ◌++◌, ◌∷◌, filter}
@@ -9,7 +9,6 @@ use Rattle.std.proofs.Math.Logic.{ite}
 use Rattle.std.proofs.Common.{◌∙◌, sym, add-one}
 use Rattle.std.proofs.Math.Path.{ap, refl}
 use Rattle.std.proofs.Math.Decide.{ℕ_discrete}
-use native.Mathlib.Omega.{arith}
 use Rattle.lists.specs.Keeps.{upto}
 use Rattle.lists.specs.Members.{no_member}
 use Rattle.language.specs.Term.{Term}
@@ -23,7 +22,7 @@ use Rattle.layout.specs.declared.Head.{Head}
 use Rattle.price.specs.Pass.{Table, accept, best, pass, turn}
 use Rattle.price.specs.Size.{AstSize}
 use Rattle.pricing.specs.Entries.{Prices}
-use Rattle.pricing.specs.Turn.{Scratched, Took, Turns, scratched_then}
+use Rattle.pricing.specs.Turn.{Scratched, Took, Turns, scratched_then, Grown, grown_then}
 
 -- ---- over plain lists
 
@@ -63,43 +62,43 @@ pass_all g C t =
 
 -- ---- the loop
 
-pub record Passes (h : Head) (ws : List ℕ) (r : Result ℕ Broken) (ws' : List ℕ) : Type 0 where
+pub record Passes (h : Head) (ws : List ℕ) (r : Result Bool Broken) (ws' : List ℕ) : Type 0 where
   pub only : Scratched h.n h.m ws ws'
   pub law : (g : Graph) (t : Table ℕ) → Classed h (view h.n h.m ws) g → Prices g h.n (view h.n h.m ws).scratch t
       → Took g h.n (view h.n h.m ws').scratch t (pass AstSize (class_nodes g) (class_roots g) t) r
 
--- the ids below i have had their turn, and k entries were taken
-pub record Passing (h : Head) (i k : ℕ) (ws ws' : List ℕ) : Type 0 where
+-- the ids below i have had their turn, and k says whether one of them took an entry
+pub record Passing (h : Head) (i : ℕ) (k : Bool) (ws ws' : List ℕ) : Type 0 where
   pub only : Scratched h.n h.m ws ws'
   pub law : (g : Graph) (t : Table ℕ) → Classed h (view h.n h.m ws) g → Prices g h.n (view h.n h.m ws).scratch t
       → Took g h.n (view h.n h.m ws').scratch t (pass AstSize (class_nodes g) (upto i) t) (Ok k)
 
-pub took_count : {g : Graph} {n : ℕ} {ss : List ℕ} {t u : Table ℕ} {k : ℕ} → Took g n ss t u (Ok k) → length u ≡ length t + k
-took_count {k = k} T = let z : T.count ≡ k = cc T.is in omega (arith, T.grown)
+pub took_grown : {g : Graph} {n : ℕ} {ss : List ℕ} {t u : Table ℕ} {r : Result Bool Broken} {k : Bool} → r ≡ Ok k → Took g n ss t u r → Grown k t u
+took_grown {k = k} e T = let z : T.taken ≡ k = cc (e, T.is) in rw z at T.grown
 
 module _ (h : Head) (ws : List ℕ) where
-  pub passing_start : Passing h 0 0 ws ws
+  pub passing_start : Passing h 0 false ws ws
   unfolding pass upto
-  passing_start = record { only = lent_same ws (λ i l. refl); law = λ g t C P. record { count = 0; is = refl; prices = P; grown = omega arith } }
+  passing_start = record { only = lent_same ws (λ i l. refl); law = λ g t C P. record { taken = false; is = refl; prices = P; grown = refl } }
 
-  module _ (i k : ℕ) (ws1 ws2 : List ℕ) (A : Passing h i k ws ws1) (r : Result ℕ Broken) (B : Turns h i ws1 r ws2) where
+  module _ (i : ℕ) (k : Bool) (ws1 ws2 : List ℕ) (A : Passing h i k ws ws1) (r : Result Bool Broken) (B : Turns h i ws1 r ws2) where
     -- the turn of id i, after those below it
     took : (g : Graph) (t : Table ℕ) → Classed h (view h.n h.m ws) g → Prices g h.n (view h.n h.m ws).scratch t
         → Took g h.n (view h.n h.m ws2).scratch (pass AstSize (class_nodes g) (upto i) t) (turn AstSize (class_nodes g) i (pass AstSize (class_nodes g) (upto i) t)) r
     took g t C P = B.law g (pass AstSize (class_nodes g) (upto i) t) (classed_lent A.only C) (A.law g t C P).prices
 
-    pub passing_more : (j : ℕ) → r ≡ Ok j → Passing h (i + 1) (k + j) ws ws2
+    pub passing_more : (j : Bool) → r ≡ Ok j → Passing h (i + 1) (k || j) ws ws2
     passing_more j e = record {
       only = scratched_then A.only B.only;
-      law = λ g t C P. one g t (took_count (A.law g t C P)) (took g t C P);
+      law = λ g t C P. one g t (took_grown refl (A.law g t C P)) (took g t C P);
     }
       where
-        one : (g : Graph) (t : Table ℕ) → length (pass AstSize (class_nodes g) (upto i) t) ≡ length t + k
+        one : (g : Graph) (t : Table ℕ) → Grown k t (pass AstSize (class_nodes g) (upto i) t)
             → Took g h.n (view h.n h.m ws2).scratch (pass AstSize (class_nodes g) (upto i) t) (turn AstSize (class_nodes g) i (pass AstSize (class_nodes g) (upto i) t)) r
-            → Took g h.n (view h.n h.m ws2).scratch t (pass AstSize (class_nodes g) (upto (i + 1)) t) (Ok (k + j))
+            → Took g h.n (view h.n h.m ws2).scratch t (pass AstSize (class_nodes g) (upto (i + 1)) t) (Ok (k || j))
         one g t l T =
-            let z : T.count ≡ j = cc (T.is, e) in
-            rw (add-one i, pass_upto (class_nodes g) i t) (record { count = k + j; is = refl; prices = T.prices; grown = omega (arith, T.grown) })
+            rw (add-one i, pass_upto (class_nodes g) i t)
+            (record { taken = k || j; is = refl; prices = T.prices; grown = grown_then k j _ _ _ l (took_grown e T) })
 
     pub pass_broken : r ≡ broken → Passes h ws broken ws2
     pass_broken e = record {
@@ -107,7 +106,7 @@ module _ (h : Head) (ws : List ℕ) where
       law = λ g t C P. let T = took g t C P in err≢ok (sym e ∙ T.is);
     }
 
-  pub pass_done : (i k : ℕ) (ws' : List ℕ) → i ≡ h.ids → Passing h i k ws ws' → Passes h ws (Ok k) ws'
+  pub pass_done : (i : ℕ) (k : Bool) (ws' : List ℕ) → i ≡ h.ids → Passing h i k ws ws' → Passes h ws (Ok k) ws'
   pass_done i k ws' e A = record {
     only = A.only;
     law = λ g t C P. let q : i ≡ ids g = e ∙ classed_ids C in rw (pass_all g C t, ← q) (A.law g t C P);

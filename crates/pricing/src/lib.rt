@@ -7,15 +7,14 @@
 //   3n + c             its place word, where a listing is made (walking): 0 where class c is not listed, else 1 and its place. Read, and not written here
 //   4n to 6n - 1       not used here
 //
-// Of the graph are read, by the promises of `egraph`: the nodes of a class, from the last one back, and the node of an id with root children. An id that is no root has
-// no nodes, so that a pass runs over all ids.
+// Of the graph are read, by the promises of `egraph`: the nodes of a class, from the last one back, and the node of an id with root children. An id that is
+// no root has no nodes, so that a pass runs over all ids.
 #![tactic(auto)]
 
 ghost use Rattle.std.specs.Prelude.{◌≡◌, ◌+◌, ◌<◌, ◌≤◌, ◌^◌, min, length};
-ghost use Rattle.language.specs.Term.{places};
-ghost use Rattle.language.specs.Struct.{node_of};
+ghost use Rattle.language.specs.Fitting.{term};
 ghost use Rattle.layout.specs.Cut.{scratch};
-ghost use Rattle.layout.specs.Did.{Did, HeadStood};
+ghost use Rattle.layout.specs.Did.{Did};
 ghost use Rattle.layout.specs.Lent.{Lent};
 ghost use Rattle.layout.specs.Seen.{seen};
 ghost use Rattle.layout.specs.View.{hd};
@@ -29,11 +28,8 @@ ghost use Rattle.pricing.specs.Pass.{Passes};
 ghost use Rattle.pricing.specs.Costs.{FindsCosts};
 
 use broken::Broken;
-use language::{Id, Node};
+use language::{Fit, Id};
 use layout::{Graph, GraphMut};
-
-// Half of a price is one word.
-const WORD: u64 = 4294967296;
 
 // A price, and an id that has the node that earned it.
 #[derive(Clone, Copy)]
@@ -49,17 +45,13 @@ pub fn get_entry(g: &Graph<'_>, c: Id) -> Option<Entry>
     requires { c.0 < g.now.h.n }
     ensures { EntryAt g.now.h.n (seen g.now).scratch c.0 result }
 {
-    let n = g.h.n;
     let i = c.0 as usize;
-    let mark = layout::scratch(g, 2 * n + i);
-    let low = layout::scratch(g, 2 * i);
-    let high = layout::scratch(g, 2 * i + 1);
-    if mark == 0 {
-        return None;
-    }
+    let id = layout::scratch(g, 2 * g.h.n + i).checked_sub(1)?;
+    let low = layout::scratch(g, 2 * i) as u64;
+    let high = layout::scratch(g, 2 * i + 1) as u64;
     Some(Entry {
-        id: Id((mark - 1) as u32),
-        price: low as u64 + high as u64 * WORD,
+        id: Id(id as u32),
+        price: low + (high << 32),
     })
 }
 
@@ -69,10 +61,8 @@ fn set_entry(g: &mut GraphMut<'_>, c: Id, e: Entry)
 {
     let n = g.h.n;
     let i = c.0 as usize;
-    let low = (e.price % WORD) as usize;
-    let high = (e.price / WORD) as usize;
-    layout::set_scratch(g, 2 * i, low);
-    layout::set_scratch(g, 2 * i + 1, high);
+    layout::set_scratch(g, 2 * i, (e.price % (1 << 32)) as usize);
+    layout::set_scratch(g, 2 * i + 1, (e.price >> 32) as usize);
     layout::set_scratch(g, 2 * n + i, e.id.0 as usize + 1);
 }
 
@@ -81,22 +71,17 @@ pub fn place_of(g: &Graph<'_>, c: Id) -> Option<usize>
     requires { c.0 < g.now.h.n }
     ensures { PlaceAt g.now.h.n (seen g.now).scratch c.0 result }
 {
-    let word = layout::scratch(g, 3 * g.h.n + c.0 as usize);
-    if word == 0 {
-        return None;
-    }
-    Some(word - 1)
+    layout::scratch(g, 3 * g.h.n + c.0 as usize).checked_sub(1)
 }
 
 // ---- the price of a node
 
 // 1 and the prices of the children's classes, added left to right.
-fn node_total_cost(g: &Graph<'_>, node: Node) -> Result<Option<u64>, Broken>
-    requires { node.count ≤ places }
-    ensures { CostsNode g.now.h.n g.now.h.ids (seen g.now).scratch (node_of node) result }
+fn node_total_cost(g: &Graph<'_>, fit: Fit) -> Result<Option<u64>, Broken>
+    ensures { CostsNode g.now.h.n g.now.h.ids (seen g.now).scratch (term fit) result }
 {
     let mut sum: u64 = 1;
-    for kid in node.children() {
+    for kid in fit.node.children() {
         if g.h.ids <= kid.0 as usize {
             return Err(Broken);
         }
@@ -125,8 +110,8 @@ fn better(g: &Graph<'_>, id: Id, best: Option<Entry>) -> Result<Option<Entry>, B
     requires { (id.0 < g.now.h.n) × IdBelow g.now.h.n best }
     ensures { Betters g.now.h id.0 best (seen g.now) result }
 {
-    let node = egraph::root_node(g, id)?;
-    match node_total_cost(g, node)? {
+    let key = egraph::root_node(g, id)?;
+    match node_total_cost(g, key)? {
         None => Ok(best),
         Some(price) => Ok(Some(choose(best, price, id))),
     }
@@ -137,11 +122,9 @@ fn class_best(g: &Graph<'_>, r: Id) -> Result<Option<Entry>, Broken>
     requires { r.0 < g.now.h.n }
     ensures { BestOf g.now.h r.0 (seen g.now) result }
 {
-    let mut at = egraph::class_nodes(g, r)?;
     let mut best = None;
-    for _ in 0..at.left {
-        best = better(g, at.id, best)?;
-        at = egraph::previous(g, at)?;
+    for id in egraph::class_nodes(g, r)? {
+        best = better(g, id?, best)?;
     }
     Ok(best)
 }
@@ -152,51 +135,45 @@ fn class_best(g: &Graph<'_>, r: Id) -> Result<Option<Entry>, Broken>
 fn accepts(old: Option<Entry>, best: Entry) -> bool
     ensures { Accepts old best result }
 {
-    match old {
-        Some(e) => best.price < e.price,
-        None => true,
-    }
+    old.is_none_or(|e| best.price < e.price)
 }
 
-// One class's turn.
-fn turn(g: &mut GraphMut<'_>, r: Id) -> Result<usize, Broken>
+// One class's turn, and whether it took an entry.
+fn turn(g: &mut GraphMut<'_>, r: Id) -> Result<bool, Broken>
     requires { r.0 < g.old.h.n }
     ensures { Did (λ ws ws'. Turns g.old.h r.0 ws result ws') g.old g.new }
 {
     let seen = g.view();
     let Some(best) = class_best(&seen, r)? else {
-        return Ok(0);
+        return Ok(false);
     };
     let old = get_entry(&seen, r);
     if accepts(old, best) {
         set_entry(g, r, best);
-        return Ok(1);
+        return Ok(true);
     }
-    Ok(0)
+    Ok(false)
 }
 
-// A pass over the classes in ascending root id: what one turn takes counts in the next.
-fn pass(g: &mut GraphMut<'_>) -> Result<usize, Broken>
+// A pass over the classes in ascending root id: what one turn takes counts in the next. It answers whether one of them took an entry.
+fn pass(g: &mut GraphMut<'_>) -> Result<bool, Broken>
     ensures { Did (λ ws ws'. Passes g.old.h ws result ws') g.old g.new }
 {
-    let mut taken: usize = 0;
+    let mut taken = false;
     for r in 0..g.h.ids {
-        taken += turn(g, Id(r as u32))?;
+        taken |= turn(g, Id(r as u32))?;
     }
     Ok(taken)
 }
 
 // Passes until one takes nothing. On a graph's words this comes within one more than there are classes; words that go on longer are no graph's.
 pub fn find_costs(g: &mut GraphMut<'_>) -> Result<(), Broken>
-    requires { HeadStood g.old }
     ensures { Did (λ ws ws'. FindsCosts g.old.h ws result ws') g.old g.new }
 {
     // a pass looks at no more nodes than there are ids: words whose classes have more are broken
-    if egraph::total_number_of_nodes(g.view().ws).is_err() {
-        return Err(Broken);
-    }
+    egraph::count_nodes(&g.view())?;
     for round in 0..g.h.ids + 1 {
-        if pass(g)? == 0 {
+        if !pass(g)? {
             return Ok(());
         }
     }

@@ -16,8 +16,9 @@ use Rattle.rechilding.specs.All.{RechildsAll}
 use Rattle.rechilding.specs.Rechild.{Fit}
 use Rattle.taking.specs.Drain.{DrainedTo, Startable}
 use Rattle.taking.specs.Enough.{DrainsAll}
-use Rattle.tidying.specs.Says.{Tidies, cleaned}
+use Rattle.tidying.specs.Says.{Tidies}
 use Rattle.uniting.specs.Near.{NearIds, inside_near, near_then, view_near}
+use Rattle.holds.specs.HoldsLaws.{marked_head}
 
 -- ---- the end of a rebuild
 
@@ -25,7 +26,7 @@ pub record FinishSays (h : Head) (ws : List ℕ) (r : Result Head Broken) (ws' :
   pub inside : Inside h.n h.m ws ws'
   pub range : (k : Head) → r ≡ Ok k → NearIds (length ws) h k
   pub sound : (g : Graph) (u : ℕ) → HoldsAt h u (view h.n h.m ws) g → Fit g
-      → (r ≡ Ok (cleaned h)) × HoldsAt (cleaned h) u (view h.n h.m ws') (marked g true)
+      → (r ≡ Ok (marked_head h true)) × HoldsAt (marked_head h true) u (view h.n h.m ws') (marked g true)
 
 module _ (h : Head) (ws ws1 : List ℕ) (c : Result Unit Broken) (C : RechildsAll h ws c ws1) where
   pub finish_broken : c ≡ broken → FinishSays h ws broken ws1
@@ -39,7 +40,7 @@ module _ (h : Head) (ws ws1 : List ℕ) (c : Result Unit Broken) (C : RechildsAl
   finish_done r ws2 T = record {
     inside = inside_then C.inside T.inside;
     range = λ k e.
-        let is : k ≡ cleaned h = T.exact k e in
+        let is : k ≡ marked_head h true = T.exact k e in
         record {
           near = subst (λ (n : ℕ). Near n h k) C.inside.size (T.range k e);
           ids_is = ap (λ (s : Head). s.ids) is;
@@ -89,7 +90,7 @@ module _ (h : Head) (ws ws1 : List ℕ) (q : Result DrainedTo Broken) (D : Drain
 
       -- both, on words that hold a graph
       ended : (g : Graph) (u : ℕ) (us : List (ℕ × ℕ)) → HoldsAt h u (view h.n h.m ws) g → Startable us g
-          → (r ≡ Ok (cleaned k)) × (z : Graph) × Rebuild g d.yes d.taken z × HoldsAt (cleaned k) u (view h.n h.m ws2) z
+          → (r ≡ Ok (marked_head k true)) × (z : Graph) × Rebuild g d.yes d.taken z × HoldsAt (marked_head k true) u (view h.n h.m ws2) z
       ended g u us H S =
           let R = D.sound g u us H S in
           let a = sym e ∙ R.answer in
@@ -102,7 +103,7 @@ module _ (h : Head) (ws ws1 : List ℕ) (q : Result DrainedTo Broken) (D : Drain
             a.0,
             marked R.graph true,
             subst (λ (n : ℕ). Rebuild g d.yes n (marked R.graph true)) et (subst (λ (n : ℕ). Rebuild g n R.entries (marked R.graph true)) ey R.rebuild),
-            subst (λ (v : View). HoldsAt (cleaned k) u v (marked R.graph true)) (view_near near ws2) a.1,
+            subst (λ (v : View). HoldsAt (marked_head k true) u v (marked R.graph true)) (view_near near ws2) a.1,
           )
 
       pub rebuild_torn : r ≡ broken → RebuildSays h ws broken ws2
@@ -124,9 +125,9 @@ module _ (h : Head) (ws ws1 : List ℕ) (q : Result DrainedTo Broken) (D : Drain
         sound = λ g u us H S.
             let p = ended g u us H S in
             let o = p.0 in
-            let z : s ≡ cleaned k = cc in
+            let z : s ≡ marked_head k true = cc in
             record {
-              head = cleaned k;
+              head = marked_head k true;
               yeses = d.yes;
               entries = d.taken;
               answer = ap (λ (x : Head). Ok (ending x)) z;

@@ -7,9 +7,9 @@ use Rattle.broken.specs.Words.{apart, broken}
 use Rattle.std.proofs.Common.{⊎_elim, ◌∙◌, ap, subst, sym, arith, get_or-set_other, get_or-set_same}
 use Rattle.lists.specs.Members.{Mem}
 use Rattle.lists.specs.Tests.{Says, eq_or, zero_one}
-use Rattle.language.specs.Struct.{node_of}
+use Rattle.language.specs.Fitting.{term}
 use Rattle.language.specs.Term.{Term, term_at}
-use Rattle.language.specs.declared.Node.{Node}
+use Rattle.language.specs.declared.fit.Fit.{Fit as FitNode}
 use Rattle.steps.specs.Graph.{Graph, ids, key_of, node}
 use Rattle.closure.specs.Slots.{Keyed}
 use Rattle.holds.specs.Holds.{HoldsAt}
@@ -21,7 +21,6 @@ use Rattle.layout.specs.Lent.{Lent, lent_next}
 use Rattle.layout.specs.View.{View, put, view}
 use Rattle.layout.specs.declared.Head.{Head}
 use Rattle.rows.specs.Promise
-use Rattle.rows.specs.Promise.{IsNode}
 use Rattle.rows.specs.Determined.{read_key}
 use Rattle.rows.specs.Read.{key_read}
 use Rattle.taking.specs.Fresh.{FreshSays}
@@ -110,19 +109,19 @@ module _ (h : Head) (i : ℕ) (k : Term) (ws ws1 : List ℕ) (d : Result Unit Br
 
 -- ---- the ways out of `rechild`
 
-module _ (h : Head) (i : ℕ) (ws : List ℕ) (f : Result Node Broken) (F : FreshSays h i ws f) where
+module _ (h : Head) (i : ℕ) (ws : List ℕ) (f : Result FitNode Broken) (F : FreshSays h i ws f) where
   pub rechild_lost : f ≡ broken → RechildSays h i ws broken ws
   rechild_lost e = record {
     inside = inside_same h.n h.m ws;
     sound = λ g u H T low. let q = (F.sound g u H low (λ c. T.kids i c low)).1 in zero_one cc;
   }
 
-  module _ (x : Node) (is : f ≡ Ok x) (w : Node) (W : IsNode w (key_read (view h.n h.m ws).rows h.n h.m i)) (b : Bool) (S : Says b (node_of w ≡ node_of x)) where
+  module _ (x : FitNode) (is : f ≡ Ok x) (w : FitNode) (W : term w ≡ key_read (view h.n h.m ws).rows h.n h.m i) (b : Bool) (S : Says b (term w ≡ term x)) where
     -- the row, and the key that it should have
-    row_is : (g : Graph) (u : ℕ) (H : HoldsAt h u (view h.n h.m ws) g) → i < ids g → node_of w ≡ term_at H.nodes.keys i
-    row_is g u H low = W.exact ∙ read_key _ _ _ g.nodes H.nodes.keys H.nodes.rows i low
+    row_is : (g : Graph) (u : ℕ) (H : HoldsAt h u (view h.n h.m ws) g) → i < ids g → term w ≡ term_at H.nodes.keys i
+    row_is g u H low = W ∙ read_key _ _ _ g.nodes H.nodes.keys H.nodes.rows i low
 
-    key_is : (g : Graph) (u : ℕ) (H : HoldsAt h u (view h.n h.m ws) g) → Fit g → i < ids g → node_of x ≡ key_of g i
+    key_is : (g : Graph) (u : ℕ) (H : HoldsAt h u (view h.n h.m ws) g) → Fit g → i < ids g → term x ≡ key_of g i
     key_is g u H T low =
         let q = F.sound g u H low (λ c. T.kids i c low) in
         let same : q.0 ≡ x = let s = q.1 in cc in
@@ -134,7 +133,7 @@ module _ (h : Head) (i : ℕ) (ws : List ℕ) (f : Result Node Broken) (F : Fres
       sound = λ g u H T low. (refl, record { holds = H; key = sym (row_is g u H low) ∙ S.holds e ∙ key_is g u H T low; others = λ j ne. refl });
     }
 
-    pub rechild_renewed : b ≡ false → (r : Result Unit Broken) (ws1 : List ℕ) → RenewSays h i (node_of x) ws r ws1 → RechildSays h i ws r ws1
+    pub rechild_renewed : b ≡ false → (r : Result Unit Broken) (ws1 : List ℕ) → RenewSays h i (term x) ws r ws1 → RechildSays h i ws r ws1
     rechild_renewed e r ws1 R = record {
       inside = R.inside;
       sound = λ g u H T low. R.sound g u H T low (key_is g u H T low) (λ q. S.fails e (row_is g u H low ∙ q));

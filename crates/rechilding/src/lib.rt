@@ -11,20 +11,19 @@
 #![tactic(auto)]
 
 ghost use Rattle.std.specs.Prelude.{◌<◌, ◌≤◌};
-ghost use Rattle.language.specs.Struct.{node_of};
-ghost use Rattle.language.specs.Term.{places};
+ghost use Rattle.language.specs.Fitting.{term};
 ghost use Rattle.layout.specs.Did.{Did};
 ghost use Rattle.rechilding.specs.Rechild.{RenewSays, RechildSays};
 ghost use Rattle.rechilding.specs.All.{RechildsAll};
 
 use broken::Broken;
-use language::{Id, Node};
+use language::{Fit, Id};
 use layout::GraphMut;
 
 // An id whose key row is out of date leaves the table, and its key row is set.
-fn renew(g: &mut GraphMut<'_>, id: Id, key: Node) -> Result<(), Broken>
-    requires { (id.0 < g.old.h.ids) × (key.count ≤ places) }
-    ensures { Did (λ ws ws'. RenewSays g.old.h id.0 (node_of key) ws result ws') g.old g.new }
+fn renew(g: &mut GraphMut<'_>, id: Id, key: Fit) -> Result<(), Broken>
+    requires { id.0 < g.old.h.ids }
+    ensures { Did (λ ws ws'. RenewSays g.old.h id.0 (term key) ws result ws') g.old g.new }
 {
     taking::vacate(g, id)?;
     parts::on_rows::set_key(g, id, key)
@@ -38,7 +37,7 @@ fn rechild(g: &mut GraphMut<'_>, id: Id) -> Result<(), Broken>
     let seen = g.view();
     let key = taking::fresh_key(&seen, id)?;
     let row = parts::on_rows::key_or_leaf(&seen, id);
-    if row.same(key) {
+    if row.node.same(key.node) {
         return Ok(());
     }
     renew(g, id, key)

@@ -1,5 +1,5 @@
-// The program `replay` once more, for the gate: its standard input are the generated scripts of oracle/fixed, one after the other, and its expected output is what egg
-// answers to them (oracle/README.md says how they were made).
+// The program `replay` once more, for the gate: its standard input are the generated scripts of oracle/fixed, one after the other, and its expected output is
+// what egg answers to them (oracle/README.md says how they were made).
 #![tactic(auto)]
 
 fn main(rt: HostRuntime) {

@@ -17,7 +17,8 @@ const PIECE: usize = 4096;
 
 // What is under way: how many bytes of a line have been read, how many bytes of answers are not written out yet, whether there may be more
 // to read, and whether a read or a write has failed. The line and the answers stand in arrays that are lent, and `used` and `at` say how
-// much of each is filled: so script's `keep` and `put_reply` take them, and a vector would be taken apart for each of these calls.
+// much of each is filled: so script's `keep` and `put_reply` take them, and a vector would be taken apart for each of these calls. The three flags are no enum:
+// a write may fail after the last read or before it, and both may fail.
 #[derive(Clone, Copy)]
 struct Progress {
     used: usize,

@@ -19,7 +19,8 @@ pub const LINE: usize = 4097;
 // Room for the longest answer behind others that are not written out yet.
 pub const OUT: usize = 1048576;
 
-// A reply, and how many words of the list go with it.
+// A reply, and how many words of the list go with it. They stand beside the reply, and are 0 where none go with it, since the reply is script's, whose
+// `put_reply` takes the words as a slice of their own (docs/PROMISES.md).
 #[derive(Clone, Copy)]
 pub struct Told {
     pub reply: Reply,

@@ -4,5 +4,4 @@ pub mod Places
 pub mod Storing
 pub mod Keying
 pub mod Determined
-pub mod Kids
 pub mod Promise

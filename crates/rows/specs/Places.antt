@@ -2,17 +2,9 @@
 -- Assumes nothing.
 use Rattle.std.specs.Prelude.{List, [], ◌++◌, ◌∷◌, ◌≡◌, refl, ◌+◌, ◌<◌, ◌≤◌, suc, zero, ℕ, length}
 use Rattle.std.proofs.Common.{◌∙◌, not-suc-le-zero, arith}
-use Rattle.std.proofs.Math.ListN.{get_or-append}
-use Rattle.std.proofs.Math.Seq.{get_or-append_seam}
 use Rattle.lists.specs.Reads.{at, length_more}
-use Rattle.language.specs.Term.{Term, term_at}
+use Rattle.language.specs.Term.{Term, term_at, term_new}
 use Rattle.rows.specs.Rows.{Row, Rows, taken}
-
-pub term_old : (ts : List Term) (t : Term) (i : ℕ) → i < length ts → term_at (ts ++ (t ∷ [])) i ≡ term_at ts i
-term_old ts t i h = get_or-append ts (t ∷ []) (record { op = 0; payload = 0; kids = [] }) i h
-
-pub term_new : (ts : List Term) (t : Term) → term_at (ts ++ (t ∷ [])) (length ts) ≡ t
-term_new ts t = get_or-append_seam ts t [] (record { op = 0; payload = 0; kids = [] })
 
 pub taken_step : (ts : List Term) (i : ℕ) → i < length ts → taken ts (suc i) ≡ taken ts i + length (term_at ts i).kids
 taken_step [] i h = absurd (not-suc-le-zero h)

@@ -4,8 +4,8 @@ use Rattle.std.specs.Prelude.{List, [], ◌++◌, ◌∷◌, ◌⊎◌, ◌≡�
 use Rattle.std.proofs.Common.{inl, inr, ◌∙◌, sym, add-zero, arith}
 use Rattle.lists.specs.Reads.{length_more, lt_more}
 use Rattle.lists.specs.Stores.{runs, runs_hit, runs_length, runs_miss}
-use Rattle.language.specs.Term.{Match, Term, places, term_at}
-use Rattle.rows.specs.Places.{row_keep, taken_apart, taken_append, taken_more, term_new, term_old}
+use Rattle.language.specs.Term.{Match, Term, places, term_at, term_new, term_old}
+use Rattle.rows.specs.Places.{row_keep, taken_apart, taken_append, taken_more}
 use Rattle.rows.specs.Rows.{Row, Rows, size, taken}
 
 -- operator, payload, count, first place, the children as given, the children of the key

@@ -1,6 +1,6 @@
-// One line of a script of calls, and the line that answers it. A call is a verb and its numbers, separated by one space; specs/Line.antt says what each line means,
-// specs/Reply.antt what each answer's line is, byte for byte. Nothing here knows a graph: a program reads lines, hands `parse` each, makes the call, and hands what it
-// answered to `put_reply`.
+// One line of a script of calls, and the line that answers it. A call is a verb and its numbers, separated by one space; specs/Line.antt says what each line
+// means, specs/Reply.antt what each answer's line is, byte for byte. Nothing here knows a graph: a program reads lines, hands `parse` each, makes the call,
+// and hands what it answered to `put_reply`.
 #![tactic(auto)]
 
 ghost use Rattle.std.specs.Prelude.{◌≤◌};
@@ -12,7 +12,8 @@ const LONGEST: usize = 4096;
 // A line of more numbers is no call: room for 22 children, of which more than eight are refused by the call.
 pub const NUMBERS: usize = 24;
 
-// The names of the calls are the Rust's. A line that is to be passed over is Skip; one that is no call is Bad.
+// The names of the calls are the Rust's. A line that is to be passed over is Skip; one that is no call is Bad. They are verbs, and no enum around a `Call`,
+// since `parse` answers a `Call` of any line (docs/PROMISES.md), and what `line_of` of specs/Line.antt says has a verb for each line.
 #[derive(Clone, Copy, Debug, PartialEq, Eq)]
 pub enum Verb {
     Setup,
@@ -46,7 +47,7 @@ pub struct Call {
     pub ghost few: { count ≤ most_numbers },
 }
 
-// What a call answered, for the line that says so. The words of a list or a form stand in a slice beside it.
+// What a call answered, for the line that says so. The words of a list or a form stand in a slice beside it, as `put_reply` takes them (docs/PROMISES.md).
 #[derive(Clone, Copy, Debug, PartialEq, Eq)]
 pub enum Reply {
     Done,

@@ -19,8 +19,9 @@ fn plain(verb: Verb) -> Call
     }
 }
 
-// One byte more of a line that is read byte by byte; bytes past the slice's length are passed over. A slice of LONGEST + 1 bytes is enough to know what the line says.
-// Slice and `used` are what `keep` takes, a public function that docs/PROMISES.md names: the slice is lent, and `used` says how much of it is filled.
+// One byte more of a line that is read byte by byte; bytes past the slice's length are passed over. A slice of LONGEST + 1 bytes is enough to know what the
+// line says. Slice and `used` are what `keep` takes, a public function that docs/PROMISES.md names: the slice is lent, and `used` says how much of it is
+// filled.
 pub fn keep(line: &mut [u8], used: usize, b: u8) -> usize
     requires { used ≤ length line.old }
     ensures { Keeps line.old used b result line.new }

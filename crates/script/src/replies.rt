@@ -1,5 +1,5 @@
-// The line that answers a call, put into a slice at a place. Each function answers the place behind what it has put, and leaves all else of the slice as it was.
-// Slice and place stay two parameters, as `put_reply` has them: a struct of both would be taken apart again there.
+// The line that answers a call, put into a slice at a place. Each function answers the place behind what it has put, and leaves all else of the slice as it
+// was. Slice and place stay two parameters, as `put_reply` has them: a struct of both would be taken apart again there.
 ghost use Rattle.std.specs.Prelude.{◌∷◌, ◌++◌, ◌≡◌, ◌+◌, ◌*◌, ◌≤◌, ◌<◌, ◌^◌, length, decimal};
 ghost use Rattle.script.specs.Reply.{fed, word, words as words_of, reply_line};
 ghost use Rattle.script.specs.Puts.{Wrote};

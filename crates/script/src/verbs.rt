@@ -4,7 +4,7 @@ ghost use Rattle.script.specs.Verbs.{chosen, entry, verb_of_word};
 
 use super::{NUMBERS, Shape, Verb};
 
-// The name of each verb, and the least and the most numbers that it takes.
+// The name of each verb, and the least and the most numbers that it takes. A row is no `Shape` with a name beside it, so that each verb is one short line.
 const TABLE: [(&[u8], Verb, usize, usize); 17] = [
     (b"setup", Verb::Setup, 2, 2),
     (b"add", Verb::Add, 2, NUMBERS),

@@ -79,15 +79,14 @@ impl Work<'_> {
     {
         let n = self.n;
         let m = self.m;
-        let front = n + n + n + n + m + m;
         let nodes = Nodes {
-            ws: &self.ws[..front],
+            ws: &self.ws[..rows::need(n, m)],
             n,
             m,
         };
         let a = nodes.key_or_leaf(Id(self.ws[i]));
         let b = nodes.key_or_leaf(Id(self.ws[j]));
-        a.order(b)
+        a.node.order(b.node)
     }
 
     // The order of the first ids of two stretches, of which one has an id: one without ids comes last.
@@ -218,7 +217,7 @@ pub fn sort(ws: &mut [u32], n: usize, m: usize, k: usize) -> Result<usize, Broke
     requires { (length ws.old ≡ size n m + n + n) × (k ≤ n) }
     ensures { Sorts ws.old ws.new n m k result }
 {
-    let base = n + n + n + n + m + m;
+    let base = rows::need(n, m);
     let mut work = Work { ws, n, m };
     if !work.are_ids(base, k) {
         return Err(Broken);

@@ -1,24 +1,12 @@
 // A node from plain numbers, as a caller gives it: an operator, a payload and a slice of children.
 ghost use Rattle.std.specs.Prelude.{◌≤◌, length};
 ghost use Rattle.language.specs.Term.{places};
-ghost use Rattle.spelling.specs.Given.{Filled, GivenNode};
+ghost use Rattle.spelling.specs.Given.{GivenNode};
 
-use language::{Id, Node, Op, PLACES};
+use language::{Node, Op, PLACES};
 
 // A count that every call refuses by 5.
 const TOO_MANY: u32 = PLACES as u32 + 1;
-
-// As many children as a node may have, or fewer.
-fn filled(op: u32, payload: u32, kids: &[u32]) -> Node
-    requires { length kids.now ≤ places }
-    ensures { Filled op payload kids.now (length kids.now) result }
-{
-    let mut node = Node::leaf(Op(op), payload);
-    for kid in kids {
-        node = node.with(Id(*kid));
-    }
-    node
-}
 
 // The node. More children than a node may have are counted as one too many and not kept: the call that takes the node refuses it by 5.
 pub fn node_of(op: u32, payload: u32, kids: &[u32]) -> Node
@@ -30,5 +18,5 @@ pub fn node_of(op: u32, payload: u32, kids: &[u32]) -> Node
             ..Node::leaf(Op(op), payload)
         };
     }
-    filled(op, payload, kids)
+    Node::over(Op(op), payload, kids)
 }

@@ -10,44 +10,43 @@
 #![tactic(auto)]
 
 ghost use Rattle.std.specs.Prelude.{◌≡◌, ◌+◌, ◌≤◌, length};
-ghost use Rattle.language.specs.Term.{places, words};
-ghost use Rattle.language.specs.Struct.{node_of};
+ghost use Rattle.language.specs.Term.{words};
+ghost use Rattle.language.specs.Fitting.{term};
 ghost use Rattle.spelling.specs.Puts.{Puts};
 ghost use Rattle.spelling.specs.Alone.{SpellsOne};
 
-use language::{Node, put_kids};
+use language::{Fit, put_kids};
 
 mod given;
 
 pub use given::node_of;
 
 // How many words a node takes.
-pub fn node_length(node: Node) -> usize
-    requires { node.count ≤ places }
-    ensures { (result ≡ length (words (node_of node))) × (result ≡ 3 + node.count) }
+pub fn node_length(fit: Fit) -> usize
+    ensures { (result ≡ length (words (term fit))) × (result ≡ 3 + fit.node.count) }
 {
-    3 + node.count as usize
+    3 + fit.node.count as usize
 }
 
 // A node's words from a place on; the answer is the place behind them.
-pub fn put_node(out: &mut [u32], at: usize, node: Node) -> usize
-    requires { (node.count ≤ places) × (at + length (words (node_of node)) ≤ length out.old) }
-    ensures { Puts out.old at node result out.new }
+pub fn put_node(out: &mut [u32], at: usize, fit: Fit) -> usize
+    requires { at + length (words (term fit)) ≤ length out.old }
+    ensures { Puts out.old at fit result out.new }
 {
-    let n = node_length(node);
+    let Fit { node, .. } = fit;
+    let n = node_length(fit);
     out[at..at + 3].copy_from_slice(&[node.op.0, node.payload, node.count]);
-    put_kids(out, at + 3, node);
+    put_kids(out, at + 3, fit);
     at + n
 }
 
 // One node's words at the start of a list. Where the list is too short for them it is left as it was.
-pub fn spell_one(list: &mut [u32], node: Node) -> Option<usize>
-    requires { node.count ≤ places }
-    ensures { SpellsOne list.old node result list.new }
+pub fn spell_one(list: &mut [u32], fit: Fit) -> Option<usize>
+    ensures { SpellsOne list.old fit.node result list.new }
 {
-    let n = node_length(node);
+    let n = node_length(fit);
     if list.len() < n {
         return None;
     }
-    Some(put_node(list, 0, node))
+    Some(put_node(list, 0, fit))
 }

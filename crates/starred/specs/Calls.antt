@@ -12,7 +12,7 @@ use Rattle.language.specs.Ordered.{compare, compare_all, order}
 use Rattle.language.specs.Sorted.{insert, sorted}
 use Rattle.language.specs.Term.{Term, same_list, same_term, spell}
 use Rattle.steps.specs.Graph.{Graph, kept, node, root, uses}
-use Rattle.steps.specs.Machine.{add_by, close, count, grow, link, merge, run, run_on, step, union_by}
+use Rattle.steps.specs.Machine.{add_by, close, grow, link, merge, run, run_on, step, union_by}
 use Rattle.steps.specs.Machine
 use Rattle.steps.specs.Classes
 use Rattle.price.specs.Adding.{add_on}
@@ -20,6 +20,7 @@ use Rattle.price.specs.Extract.{listing, quick_table}
 use Rattle.price.specs.Listing.{each, enter, form_words, in_order, spot, visit}
 use Rattle.price.specs.Pass.{Best, accept, best, better, look, pass, passes, passes_on, priced, prices, turn, with_price}
 use Rattle.price.specs.Size.{AstSize, cap}
+use Rattle.std.specs.Int.{from_bool}
 
 -- a call, and what it answers
 pub data Call : Type 0 where
@@ -59,9 +60,9 @@ call g (add x) = let a = Machine.add g x in said a.graph (a.id ∷ [])
 call g (add_uncanonical x) = let a = Machine.add_uncanonical g x in said a.graph (a.id ∷ [])
 call g (lookup x) = said g (or_nothing (Machine.lookup g x))
 call g (find i) = said g (root g.roots i ∷ [])
-call g (union i j) = let u = Machine.union g i j in said u.graph (count u.answer ∷ [])
+call g (union i j) = let u = Machine.union g i j in said u.graph (from_bool u.answer ∷ [])
 call g rebuild = let r = run 80 g in said r.graph (when (dec_lt r.entries 80) (r.yeses ∷ []) [])
-call g clean = said g (count g.clean ∷ [])
+call g clean = said g (from_bool g.clean ∷ [])
 call g number_of_classes = said g (Classes.number_of_classes g ∷ [])
 call g total_number_of_nodes = said g (Classes.total_number_of_nodes g ∷ [])
 call g classes = said g (Classes.classes g)

@@ -6,6 +6,7 @@ use Rattle.std.proofs.Math.Decide.{ℕ_discrete, dec_lt}
 use Rattle.lists.specs.Relabel.{relabel}
 use Rattle.language.specs.Term.{Term}
 use Rattle.steps.specs.Graph.{Graph, ids, root, uses, canon, key_of, kept}
+use Rattle.std.specs.Int.{from_bool}
 
 -- ---- fresh: no ids, `clean` false
 
@@ -120,16 +121,12 @@ unfoldable pub step : Graph → List ℕ → Joined
 step g [] = record { graph = g; answer = false }
 step g (i ∷ rest) = close (taken g i rest) (kept (key_of g i) g.memo) i
 
-abbrev pub count : Bool → ℕ
-count true = 1
-count false = 0
-
 -- the rebuild of g takes t entries, y of its unions answer yes, and it leaves h. At the end every class has its nodes re-childed, sorted and
 -- duplicates dropped: `class_nodes` of Classes, which needs no state; `clean` becomes true
 pub data Rebuild : Graph → ℕ → ℕ → Graph → Type 0 where
   done : {g : Graph} → g.pending ≡ [] → Rebuild g 0 0 (marked g true)
   more : {g h : Graph} {y t : ℕ} → g.pending ≢ [] → Rebuild (step g g.pending).graph y t h
-      → Rebuild g (count (step g g.pending).answer + y) (suc t) h
+      → Rebuild g (from_bool (step g g.pending).answer + y) (suc t) h
 
 -- the same as a function, to compute with: at most `fuel` entries (`run_rebuild` and `run_enough` say that it is the same)
 pub record Rebuilt : Type 0 where
@@ -139,7 +136,7 @@ pub record Rebuilt : Type 0 where
 
 unfoldable pub run_on : List ℕ → Graph → (Graph → Rebuilt) → Rebuilt
 run_on [] g next = record { graph = marked g true; yeses = 0; entries = 0 }
-run_on (i ∷ rest) g next = let s = step g g.pending in let r = next s.graph in record { graph = r.graph; yeses = count s.answer + r.yeses; entries = suc r.entries }
+run_on (i ∷ rest) g next = let s = step g g.pending in let r = next s.graph in record { graph = r.graph; yeses = from_bool s.answer + r.yeses; entries = suc r.entries }
 
 unfoldable pub run : ℕ → Graph → Rebuilt
 run zero g = record { graph = g; yeses = 0; entries = 0 }

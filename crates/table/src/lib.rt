@@ -12,8 +12,7 @@
 #![tactic(auto)]
 
 ghost use Rattle.std.specs.Prelude.{◌≡◌, ◌≤◌, ◌<◌, length};
-ghost use Rattle.language.specs.Term.{places};
-ghost use Rattle.language.specs.Struct.{node_of};
+ghost use Rattle.language.specs.Fitting.{term};
 ghost use Rattle.rows.specs.Rows.{size};
 ghost use Rattle.cells.specs.Changes.{Room};
 ghost use Rattle.table.specs.Buckets.{Lands};
@@ -24,35 +23,35 @@ ghost use Rattle.table.specs.Leaving.{Departed};
 
 use broken::Broken;
 use cells::Pool;
-use language::{Id, Node};
+use language::{Fit, Id};
 use rows::Nodes;
 
 const WORDS: u64 = 4294967296;
 
 // In which of n buckets a key is kept: the hash, scaled down from all words to n.
-pub fn bucket(node: Node, n: usize) -> usize
-    requires { (1 ≤ n) × (n ≤ 65536) × (node.count ≤ places) }
-    ensures { Lands n (node_of node) result }
+pub fn bucket(key: Fit, n: usize) -> usize
+    requires { (1 ≤ n) × (n ≤ 65536) }
+    ensures { Lands n (term key) result }
 {
-    let h = node.hash() as u64;
+    let h = key.node.hash() as u64;
     let r = h * (n as u64) / WORDS;
     r as usize
 }
 
 // Whether the key of an id is the one that is looked for. The key stands in the words, so no derive can compare it.
-fn compare(nodes: &Nodes<'_>, id: Id, node: Node) -> Result<bool, Broken>
-    requires { (id.0 < nodes.now.n) × (node.count ≤ places) }
-    ensures { Compares nodes.now.ws.now nodes.now.n nodes.now.m id.0 (node_of node) result }
+fn compare(nodes: &Nodes<'_>, id: Id, key: Fit) -> Result<bool, Broken>
+    requires { id.0 < nodes.now.n }
+    ensures { Compares nodes.now.ws.now nodes.now.n nodes.now.m id.0 (term key) result }
 {
-    let key = nodes.key(id)?;
-    Ok(key.same(node))
+    let row = nodes.key(id)?;
+    Ok(row.node.same(key.node))
 }
 
 // The id in one bucket that has a key, from the bucket's end.
-fn seek(ts: &[u32], nodes: &Nodes<'_>, bucket: usize, node: Node) -> Result<Option<Id>, Broken>
+fn seek(ts: &[u32], nodes: &Nodes<'_>, bucket: usize, key: Fit) -> Result<Option<Id>, Broken>
     requires room { Room ts.now nodes.now.n nodes.now.n }
-    requires bucket_lt_n { (bucket < nodes.now.n) × (node.count ≤ places) }
-    ensures { Sought ts.now nodes.now.ws.now nodes.now.n nodes.now.m bucket (node_of node) result }
+    requires bucket_lt_n { bucket < nodes.now.n }
+    ensures { Sought ts.now nodes.now.ws.now nodes.now.n nodes.now.m bucket (term key) result }
 {
     let n = nodes.n;
     let pool = Pool {
@@ -70,7 +69,7 @@ fn seek(ts: &[u32], nodes: &Nodes<'_>, bucket: usize, node: Node) -> Result<Opti
             return Err(Broken);
         }
         let id = Id(cur as u32);
-        if compare(nodes, id, node)? {
+        if compare(nodes, id, key)? {
             return Ok(Some(id));
         }
         cur = pool.link(cur);
@@ -78,17 +77,18 @@ fn seek(ts: &[u32], nodes: &Nodes<'_>, bucket: usize, node: Node) -> Result<Opti
     Ok(None)
 }
 
-// The id in the table whose key is this node.
-pub fn ask(ts: &[u32], nodes: &Nodes<'_>, node: Node) -> Result<Option<Id>, Broken>
+// The id in the table that has this key.
+pub fn ask(ts: &[u32], nodes: &Nodes<'_>, key: Fit) -> Result<Option<Id>, Broken>
     requires room { Room ts.now nodes.now.n nodes.now.n }
-    requires n_in_range { (1 ≤ nodes.now.n) × (nodes.now.n ≤ 65536) × (node.count ≤ places) }
-    ensures { Answers ts.now nodes.now.ws.now nodes.now.n nodes.now.m (node_of node) result }
+    requires n_in_range { (1 ≤ nodes.now.n) × (nodes.now.n ≤ 65536) }
+    ensures { Answers ts.now nodes.now.ws.now nodes.now.n nodes.now.m (term key) result }
 {
-    let b = bucket(node, nodes.n);
-    seek(ts, nodes, b, node)
+    let b = bucket(key, nodes.n);
+    seek(ts, nodes, b, key)
 }
 
-// Puts an id, which is in no bucket, into the bucket of its key.
+// Puts an id, which is in no bucket, into the bucket of its key. The bucket is handed in, here and to `leave`, and not worked out of the key: trial_parts
+// tries both with buckets that no key has.
 pub fn enter(ts: &mut [u32], n: usize, bucket: usize, id: Id) -> Result<(), Broken>
     requires room { Room ts.old n n }
     requires bucket_lt_n { (bucket < n) × (id.0 < n) }

@@ -14,10 +14,10 @@ use Rattle.holds.specs.Inside.{Inside, inside_then}
 use Rattle.layout.specs.Head.{HeadOk}
 use Rattle.layout.specs.View.{view}
 use Rattle.layout.specs.declared.Head.{Head}
-use Rattle.taking.specs.Leave.{was}
 use Rattle.taking.specs.Rekey.{RekeySays, Ripe}
 use Rattle.uniting.specs.Near.{NearIds}
 use Rattle.uniting.specs.Says.{UniteSays, United, told}
+use Rattle.language.specs.Told.{told_none, told_not, told_some}
 
 -- the entry of id i in the graph g
 abbrev pub closing : Graph → ℕ → Joined
@@ -36,24 +36,12 @@ close_none : (g : Graph) (i : ℕ) → close g None i ≡ record { graph = g; an
 unfolding close
 close_none g i = refl
 
-was_new : (o : Option ℕ) → Ok None ≡ was o → o ≡ None
-was_new None e = refl
-was_new (Some j) e = zero_one cc
-
-was_from : (x : Id) (o : Option ℕ) → Ok (Some x) ≡ was o → o ≡ Some x.0
-was_from x None e = zero_one cc
-was_from x (Some j) e = let z : ◌≡◌ {A = Id} (record { 0 = j }) x = cc in ap (λ (y : Id). Some y.0) z
-
-was_broken : {A : Type 0} (o : Option ℕ) → broken ≡ was o → A
-was_broken None e = zero_one cc
-was_broken (Some j) e = zero_one cc
-
 module _ (h : Head) (i : ℕ) (ws ws1 : List ℕ) (ok : HeadOk (length ws) h) (r1 : Result (Option Id) Broken) (K : RekeySays h i ws r1 ws1) where
   pub close_broken : r1 ≡ broken → CloseSays h i ws broken ws1
   close_broken e = record {
     inside = K.inside;
     range = λ s q. zero_one cc;
-    sound = λ g u H R. was_broken (kept (key_of g i) g.memo) (sym e ∙ (K.sound g u H R).0);
+    sound = λ g u H R. told_not (kept (key_of g i) g.memo) (sym e ∙ (K.sound g u H R).0);
   }
 
   abbrev pub alone : United
@@ -65,7 +53,7 @@ module _ (h : Head) (i : ℕ) (ws ws1 : List ℕ) (ok : HeadOk (length ws) h) (r
     range = λ s q. let z : alone ≡ s = cc in subst (λ (t : United). NearIds (length ws) h t.head) z (near_same (length ws) h ok);
     sound = λ g u H R.
         let s = K.sound g u H R in
-        let f = was_new (kept (key_of g i) g.memo) (sym e ∙ s.0) in
+        let f = told_none (kept (key_of g i) g.memo) (sym e ∙ s.0) in
         let c : closing g i ≡ record { graph = keyed g (key_of g i) i; answer = false } = ap (λ (o : Option ℕ). close (keyed g (key_of g i) i) o i) f ∙ close_none (keyed g (key_of g i) i) i in
         subst (λ (t : Joined). (k : Head) × (Ok alone ≡ told t.answer k) × HoldsAt k u (view h.n h.m ws1) t.graph) (sym c) (h, refl, s.1);
   }
@@ -77,7 +65,7 @@ module _ (h : Head) (i : ℕ) (ws ws1 : List ℕ) (ok : HeadOk (length ws) h) (r
       unfolding close
       joined g u H R =
           let s = K.sound g u H R in
-          let f = was_from x (kept (key_of g i) g.memo) (sym e ∙ s.0) in
+          let f = told_some (kept (key_of g i) g.memo) x (sym e ∙ s.0) in
           let j = U.sound (keyed g (key_of g i) i) u s.1 in
           subst (λ (o : Option ℕ). (k : Head) × (r2 ≡ told (close (keyed g (key_of g i) i) o i).answer k) × HoldsAt k u (view h.n h.m ws2) (close (keyed g (key_of g i) i) o i).graph) (sym f) j
 

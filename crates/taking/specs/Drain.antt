@@ -7,7 +7,7 @@ use Rattle.std.proofs.Common.{inl, inr, ap, subst, sym, arith}
 use Rattle.lists.specs.Tests.{zero_one}
 use Rattle.closure.specs.Closed.{step_unclean}
 use Rattle.steps.specs.Graph.{Graph}
-use Rattle.steps.specs.Machine.{Rebuild, count, done, marked, more, step}
+use Rattle.steps.specs.Machine.{Rebuild, done, marked, more, step}
 use Rattle.closure.specs.Invariant.{Good, Same}
 use Rattle.closure.specs.Slots.{Keyed, step_keyed}
 use Rattle.closure.specs.Taking.{step_good}
@@ -20,6 +20,7 @@ use Rattle.taking.specs.Entry.{EntrySays, Open}
 use Rattle.taking.specs.declared.Drained.{Drained}
 use Rattle.uniting.specs.Says.{United, answered}
 use Rattle.uniting.specs.Near.{NearIds, inside_near, near_then, view_near}
+use Rattle.std.specs.Int.{from_bool}
 
 -- what a drain answers, with the head that is left
 pub record DrainedTo : Type 0 where
@@ -84,7 +85,7 @@ going_start h fuel ws ok = record {
   sound = λ g u us H S y t z R l. record { graph = g; holds = H; start = S; yes_left = y; left = t; rest = R; yes_is = omega arith; taken_is = omega arith };
 }
 
-count_low : (b : Bool) → count b ≤ 1
+count_low : (b : Bool) → from_bool b ≤ 1
 count_low true = omega arith
 count_low false = omega arith
 
@@ -163,7 +164,7 @@ module _ (h : Head) (fuel : ℕ) (ws₀ : List ℕ) (k : Head) (ws : List ℕ) (
     -- one entry more
     module _ (s : United) (e : r ≡ Ok (Some s)) where
       abbrev d : ℕ
-      d = count s.joined
+      d = from_bool s.joined
 
       stepped : (us : List (ℕ × ℕ)) (u : ℕ) (g z : Graph) (y t yl tl : ℕ) → HoldsAt k u (view h.n h.m ws) g → Startable us g → Rebuild g yl tl z
           → yes + yl ≡ y → taken + tl ≡ t → Reached us u z y t s.head (view h.n h.m ws1) (yes + d) (taken + 1)
@@ -176,7 +177,7 @@ module _ (h : Head) (fuel : ℕ) (ws₀ : List ℕ) (k : Head) (ws : List ℕ) (
           let f = a.1 in
           let same : answered (step g g.pending).answer a.0 ≡ s = cc in
           let p : a.0 ≡ s.head = ap (λ (x : United). x.head) same in
-          let q : count (step g g.pending).answer ≡ d = ap (λ (x : United). count x.joined) same in
+          let q : from_bool (step g g.pending).answer ≡ d = ap (λ (x : United). from_bool x.joined) same in
           record {
             graph = (step g g.pending).graph;
             holds = subst (λ (v : View). HoldsAt s.head u v (step g g.pending).graph) (view_near G.near ws1)
@@ -189,7 +190,7 @@ module _ (h : Head) (fuel : ℕ) (ws₀ : List ℕ) (k : Head) (ws : List ℕ) (
             taken_is = omega arith;
           }
 
-      pub going_on : 0 < left → Going h fuel ws₀ s.head ws1 (left - 1) (yes + count s.joined) (taken + 1)
+      pub going_on : 0 < left → Going h fuel ws₀ s.head ws1 (left - 1) (yes + from_bool s.joined) (taken + 1)
       going_on some =
           let b = E.range s e in
           let low : d ≤ 1 = count_low s.joined in

@@ -5,10 +5,10 @@ use Rattle.broken.specs.declared.Broken.{Broken}
 use Rattle.broken.specs.Words.{broken}
 use Rattle.std.proofs.Common.{inl, ◌∙◌, ap, subst, sym, arith}
 use Rattle.lists.specs.Tests.{zero_one}
-use Rattle.language.specs.Struct.{node_of}
+use Rattle.language.specs.Fitting.{term}
 use Rattle.language.specs.Term.{Term, term_at}
 use Rattle.language.specs.declared.Id.{Id}
-use Rattle.language.specs.declared.Node.{Node}
+use Rattle.language.specs.declared.fit.Fit.{Fit}
 use Rattle.steps.specs.Graph.{kept}
 use Rattle.closure.specs.Tables.{Live}
 use Rattle.holds.specs.Inside.{Inside, inside_lent, inside_same}
@@ -25,11 +25,7 @@ use Rattle.rows.specs.Rows.{Rows}
 use Rattle.table.specs.Asking.{Answers}
 use Rattle.table.specs.Buckets.{Lands, bucket_of}
 use Rattle.table.specs.Leaving.{Departed}
-
--- the answer for the id that the table kept
-abbrev pub was : Option ℕ → Result (Option Id) Broken
-was None = Ok None
-was (Some j) = Ok (Some (record { 0 = j }))
+use Rattle.language.specs.Told.{told_id}
 
 -- ---- the id that has the key k leaves
 
@@ -44,7 +40,7 @@ pub record OustSays (h : Head) (k : Term) (ws : List ℕ) (r : Result (Option Id
   pub range : (x : Id) → r ≡ Ok (Some x) → x.0 < h.ids
   pub sound : (ns : List Term) (roots : List ℕ) (memo : List (Term × ℕ)) (D : Nodes h.n h.m (view h.n h.m ws).rows (view h.n h.m ws).table ns roots memo)
       (i : ℕ) → length ns ≡ h.ids → Live roots k
-      → (r ≡ was (kept k memo)) × Ousted h i k D.keys D.buckets (view h.n h.m ws) ws'
+      → (r ≡ told_id (kept k memo)) × Ousted h i k D.keys D.buckets (view h.n h.m ws) ws'
 
 module _ (h : Head) (k : Term) (ws : List ℕ) (a : Result (Option Id) Broken) (A : Answers (view h.n h.m ws).table (view h.n h.m ws).rows h.n h.m k a) where
   pub oust_broken : a ≡ broken → OustSays h k ws broken ws
@@ -60,7 +56,7 @@ module _ (h : Head) (k : Term) (ws : List ℕ) (a : Result (Option Id) Broken) (
     range = λ x f. zero_one cc;
     sound = λ ns roots memo D i len live.
         let none_kept = (nodes_ask _ _ _ _ ns roots memo D k a live A).absent e in
-        (ap was (sym none_kept), record { ts = (view h.n h.m ws).table; is = refl; vacant = vacant_alone _ _ _ _ ns roots memo D i k live (inl none_kept) });
+        (ap told_id (sym none_kept), record { ts = (view h.n h.m ws).table; is = refl; vacant = vacant_alone _ _ _ _ ns roots memo D i k live (inl none_kept) });
   }
 
   module _ (x : Id) (e : a ≡ Ok (Some x)) where
@@ -74,12 +70,12 @@ module _ (h : Head) (k : Term) (ws : List ℕ) (a : Result (Option Id) Broken) (
     module _ (b : ℕ) (B : Lands h.n k b) (ws1 : List ℕ) (c : Result Bool Broken) (L : Lent table h.n h.m (λ w w'. Departed w w' h.n b x.0 c) ws ws1) where
       -- the id that the table kept is out
       out : (ns : List Term) (roots : List ℕ) (memo : List (Term × ℕ)) (D : Nodes h.n h.m (view h.n h.m ws).rows (view h.n h.m ws).table ns roots memo) (i : ℕ)
-          → Live roots k → (c ≡ Ok true) × (Ok (Some x) ≡ was (kept k memo)) × Ousted h i k D.keys D.buckets (view h.n h.m ws) ws1
+          → Live roots k → (c ≡ Ok true) × (◌≡◌ {A = Result (Option Id) Broken} (Ok (Some x)) (told_id (kept k memo))) × Ousted h i k D.keys D.buckets (view h.n h.m ws) ws1
       out ns roots memo D i live =
           let f = (nodes_ask _ _ _ _ ns roots memo D k a live A).found x e in
           let n = lent_next (subst (λ (y : ℕ). Lent table h.n h.m (λ w w'. Departed w w' h.n y x.0 c) ws ws1) B.exact L) refl in
           let o = rekey_other _ _ _ _ ns roots memo D i k x.0 n.new c live f n.did in
-          (o.0, ap was (sym f), record { ts = n.new; is = n.is; vacant = o.1 })
+          (o.0, ap told_id (sym f), record { ts = n.new; is = n.is; vacant = o.1 })
 
       pub oust_done : x.0 < h.ids → OustSays h k ws (Ok (Some x)) ws1
       oust_done low = record {
@@ -109,7 +105,7 @@ pub record VacateSays (h : Head) (i : ℕ) (ws : List ℕ) (r : Result Unit Brok
       → (c : Result Bool Broken) × (c ≢ broken → r ≡ Ok tt) × (ts : List ℕ) × (view h.n h.m ws' ≡ put table v ts)
       × Departed v.table ts h.n (bucket_of h.n (term_at ks i)) i c
 
-module _ (h : Head) (i : ℕ) (ws : List ℕ) (f : Result Node Broken) (F : Key (view h.n h.m ws).rows h.n h.m i f) where
+module _ (h : Head) (i : ℕ) (ws : List ℕ) (f : Result Fit Broken) (F : Key (view h.n h.m ws).rows h.n h.m i f) where
   fetched : (v : View) → view h.n h.m ws ≡ v → Key v.rows h.n h.m i f
   fetched v ev = subst (λ (x : View). Key x.rows h.n h.m i f) ev F
 
@@ -119,14 +115,14 @@ module _ (h : Head) (i : ℕ) (ws : List ℕ) (f : Result Node Broken) (F : Key 
     sound = λ v ev ns ks R l. let q = ((fetched v ev).sound ns ks R l).1 in zero_one cc;
   }
 
-  pub vacate_left : (x : Node) → f ≡ Ok x → (b : ℕ) → Lands h.n (node_of x) b → (ws1 : List ℕ) (c : Result Bool Broken) (r : Result Unit Broken) → (c ≢ broken → r ≡ Ok tt)
+  pub vacate_left : (x : Fit) → f ≡ Ok x → (b : ℕ) → Lands h.n (term x) b → (ws1 : List ℕ) (c : Result Bool Broken) (r : Result Unit Broken) → (c ≢ broken → r ≡ Ok tt)
       → Lent table h.n h.m (λ w w'. Departed w w' h.n b i c) ws ws1 → VacateSays h i ws r ws1
   vacate_left x is b B ws1 c r done L = record {
     inside = inside_lent (λ v l. refl) L;
     sound = λ v ev ns ks R l.
         let q = (fetched v ev).sound ns ks R l in
         let same : q.0 ≡ x = let s = q.1 in cc in
-        let key : node_of x ≡ term_at ks i = rw (← same) q.2 in
+        let key : term x ≡ term_at ks i = rw (← same) q.2 in
         let e : b ≡ bucket_of h.n (term_at ks i) = B.exact ∙ ap (bucket_of h.n) key in
         let n = lent_next (subst (λ (y : ℕ). Lent table h.n h.m (λ w w'. Departed w w' h.n y i c) ws ws1) e L) ev in
         (c, done, n.new, n.is, n.did);

@@ -5,29 +5,25 @@ use Rattle.broken.specs.declared.Broken.{Broken}
 use Rattle.broken.specs.Words.{broken}
 use mathlib.Core.List.{List, [], ◌∷◌, cons≢nil, head-eq_of_cons-eq, tail-eq_of_cons-eq}
 use Rattle.std.proofs.Common.{inl, inr, ◌∙◌, ap, subst, sym, arith}
-use Rattle.lists.specs.Reads.{at}
+use Rattle.lists.specs.Reads.{at, Word}
 use Rattle.lists.specs.Tests.{lt_or, zero_one}
 use Rattle.language.specs.declared.Id.{Id}
 use Rattle.steps.specs.Graph.{Graph, ids}
 use Rattle.steps.specs.Machine.{popped}
-use Rattle.cells.specs.Reading.{Word}
 use Rattle.holds.specs.Holds.{HoldsAt}
 use Rattle.holds.specs.Inside.{Inside, inside_lent, inside_same}
 use Rattle.holds.specs.Parents.{Parents}
 use Rattle.holds.specs.ParentsLaws.{Took, parents_empty, parents_many_low, parents_some, parents_take_many, parents_take_one}
 use Rattle.layout.specs.Cut.{pending}
 use Rattle.layout.specs.Head.{HeadOk}
-use Rattle.layout.specs.Lent.{Lent, Loaded, lent_next}
+use Rattle.layout.specs.Lent.{Lent, lent_next}
 use Rattle.layout.specs.View.{View, put, view}
 use Rattle.layout.specs.declared.Head.{Head}
 use Rattle.pending.specs.Promise.{PushesStretch, Tops}
 use Rattle.pending.specs.declared.OnTop.{OnTop}
 use Rattle.pending.specs.declared.OnTop.TheVariants.{TopMany, TopOne}
 use Rattle.uniting.specs.Near.{NearIds}
-
--- the head with the depth d of pending
-abbrev pub at_depth : Head → ℕ → Head
-at_depth h d = record { n = h.n; m = h.m; ids = h.ids; places = h.places; depth = d; classes = h.classes; clean = h.clean }
+use Rattle.holds.specs.HoldsLaws.{at_depth}
 
 -- an id taken, and the head that is left
 pub record Taken : Type 0 where
@@ -121,7 +117,7 @@ module _ (h : Head) (ws : List ℕ) (ok : HeadOk (length ws) h) where
       sound = λ g u H t T is i rest e l. absurd (let w = parents_many_low _ _ _ _ _ _ _ _ _ _ H.parents place count t q.0 T is in omega arith);
     }
 
-    pub last_done : (ws1 : List ℕ) (i b d : ℕ) (r : Result Taken Broken) → Loaded (view h.n h.m ws).owners place i → Word (view h.n h.m ws).uses (h.n + h.n + h.n + place) b
+    pub last_done : (ws1 : List ℕ) (i b d : ℕ) (r : Result Taken Broken) → Word (view h.n h.m ws).owners place i → Word (view h.n h.m ws).uses (h.n + h.n + h.n + place) b
         → Lent pending h.n h.m (λ w w'. PushesStretch w (h.depth - 1) b (count - 1) d w') ws ws1 → Hands h d i r → LastSays h place count ws r ws1
     last_done ws1 i b d r O W L K =
         let a = lent_next L refl in
@@ -131,7 +127,7 @@ module _ (h : Head) (ws : List ℕ) (ok : HeadOk (length ws) h) where
           sound = λ g u H t T is j rest e l.
               let P = parents_take_many _ _ _ _ _ _ _ _ _ _ H.parents place count t q.0 T is b d a.new W.exact a.did in
               let p = holds_popped H d j (at (view h.n h.m ws).owners place) rest a.new (omega (arith, L.did.high)) e P in
-              let ij : i ≡ j = O.is ∙ p.0 in
+              let ij : i ≡ j = O.exact ∙ p.0 in
               let low : i < h.ids = omega (arith, H.ids_are) in
               (at_depth h d, K.known low ∙ ap (λ (x : ℕ). Ok (entry x (at_depth h d))) ij, subst (λ (z : View). HoldsAt (at_depth h d) u z (popped g rest)) (sym a.is) p.1);
         }

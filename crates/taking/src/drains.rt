@@ -1,5 +1,5 @@
-// Entries closed, one after the other, until none is pending: each is taken (takes.rt), its key is brought up to date (keys.rt), and the id that had this key before is
-// united with it.
+// Entries closed, one after the other, until none is pending: each is taken (takes.rt), its key is brought up to date (keys.rt), and the id that had this key
+// before is united with it.
 ghost use Rattle.std.specs.Prelude.{None, Ok, ◌≡◌, ◌<◌};
 ghost use Rattle.layout.specs.Did.{SameLoan};
 ghost use Rattle.uniting.specs.Says.{united};

@@ -1,33 +1,31 @@
 // The key of an id brought up to date, in its row and in the table: the id that had this key before leaves the table.
 ghost use Rattle.std.specs.Prelude.{◌≡◌, ◌<◌, ◌≤◌};
 ghost use Rattle.layout.specs.Did.{Did};
-ghost use Rattle.language.specs.Term.{places};
-ghost use Rattle.language.specs.Struct.{node_of};
+ghost use Rattle.language.specs.Fitting.{term};
 ghost use Rattle.taking.specs.Fresh.{FreshSays};
 ghost use Rattle.taking.specs.Leave.{OustSays, VacateSays};
 ghost use Rattle.taking.specs.Settle.{SettleSays};
 ghost use Rattle.taking.specs.Rekey.{RekeySays};
 
 use broken::Broken;
-use language::{Id, Node};
+use language::{Fit, Id};
 use layout::{Graph, GraphMut};
 
 // The key of an id: its node as it was given, with root children.
-pub fn fresh_key(g: &Graph<'_>, id: Id) -> Result<Node, Broken>
+pub fn fresh_key(g: &Graph<'_>, id: Id) -> Result<Fit, Broken>
     requires { id.0 < g.now.h.ids }
     ensures { FreshSays g.now.h id.0 g.now.ws.now result }
 {
-    let node = parts::on_rows::given(g, id)?;
-    if !growing::known(node, g.h.ids) {
+    let given = parts::on_rows::given(g, id)?;
+    if !growing::known(given, g.h.ids) {
         return Err(Broken);
     }
-    growing::with_roots(g, node)
+    growing::with_roots(g, given)
 }
 
 // The id that has this key, if there is one, leaves the table.
-fn oust(g: &mut GraphMut<'_>, key: Node) -> Result<Option<Id>, Broken>
-    requires { key.count ≤ places }
-    ensures { Did (λ ws ws'. OustSays g.old.h (node_of key) ws result ws') g.old g.new }
+fn oust(g: &mut GraphMut<'_>, key: Fit) -> Result<Option<Id>, Broken>
+    ensures { Did (λ ws ws'. OustSays g.old.h (term key) ws result ws') g.old g.new }
 {
     let Some(old) = parts::on_table::ask(&g.view(), key)? else {
         return Ok(None);
@@ -54,9 +52,9 @@ pub fn vacate(g: &mut GraphMut<'_>, id: Id) -> Result<(), Broken>
 }
 
 // An id gets another key: it leaves the table under the old one, and goes in under the new one.
-fn settle(g: &mut GraphMut<'_>, id: Id, key: Node) -> Result<(), Broken>
-    requires { (id.0 < g.old.h.ids) × (key.count ≤ places) }
-    ensures { Did (λ ws ws'. SettleSays g.old.h id.0 (node_of key) ws result ws') g.old g.new }
+fn settle(g: &mut GraphMut<'_>, id: Id, key: Fit) -> Result<(), Broken>
+    requires { id.0 < g.old.h.ids }
+    ensures { Did (λ ws ws'. SettleSays g.old.h id.0 (term key) ws result ws') g.old g.new }
 {
     vacate(g, id)?;
     parts::on_rows::set_key(g, id, key)?;

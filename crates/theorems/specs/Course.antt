@@ -9,14 +9,14 @@ use Rattle.std.proofs.Math.Path.{refl}
 use Rattle.lists.specs.Members.{Mem, mem-cases, mem-nil}
 use Rattle.lists.specs.Reads.{at}
 use Rattle.language.specs.Struct.{node_of}
-use Rattle.language.specs.Term.{places}
+use Rattle.language.specs.Term.{places, Known}
 use Rattle.language.specs.declared.Node.{Node}
 use Rattle.steps.specs.Forced.{Forced, Made, added, joined, rebuilt, start}
 use Rattle.steps.specs.Graph.{Graph, ids, root}
 use Rattle.steps.specs.Machine.{Given, Rebuild, add, add_uncanonical, fresh, union}
 use Rattle.closure.specs.Closed.{again, demand_3, sound}
 use Rattle.closure.specs.Ends.{ends}
-use Rattle.adding.specs.Says.{Known, Room, kept_for}
+use Rattle.adding.specs.Says.{Room, kept_for}
 use Rattle.egraph.specs.Adds.{Adding, AddingSays, given_old}
 use Rattle.egraph.specs.Answers.{Answer, SameLimits, id_says, count_says, flag, head_of, flag_says, yes_with}
 use Rattle.egraph.specs.Reads.{FindSays}

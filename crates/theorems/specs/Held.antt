@@ -6,15 +6,14 @@ use Rattle.language.specs.declared.Id.{Id}
 use Rattle.extract.specs.declared.Form.{Form}
 use Rattle.std.specs.Prelude.{Bool, Result, false, true, List, [], ◌++◌, ◌∷◌, ◌≢◌, ◌⊎◌, ◌≡◌, refl, ◌<◌, ◌≤◌, ℕ, eqb, drop, length, take, Option, None, Some}
 use Rattle.std.proofs.Common.{inl, inr, ◌∙◌, ap, sym, arith}
-use Rattle.lists.specs.Options.{none≢some}
 use Rattle.lists.specs.Tests.{lt_or}
 use Rattle.language.specs.Struct.{node_of}
-use Rattle.language.specs.Term.{Term, places, spell, words}
+use Rattle.language.specs.Term.{Term, places, spell, words, Known}
 use Rattle.language.specs.declared.Node.{Node}
 use Rattle.steps.specs.Classes.{nodes, number_of_classes, total_number_of_nodes}
 use Rattle.steps.specs.Graph.{Graph, ids, node, root}
 use Rattle.steps.specs.Machine.{Rebuild, add, lookup, union}
-use Rattle.adding.specs.Says.{Full, Known, Room, kept_for}
+use Rattle.adding.specs.Says.{Full, Room, kept_for}
 use Rattle.egraph.specs.Adds.{AddingSays, LookupSays, NodeLadder, found_as}
 use Rattle.egraph.specs.Answers.{Answer, Else, Lists, SameLimits, Unless7, id_says, count_says, flag, flag_says, head_of, held_clean, lookup_says, no_by, node_says, yes_with}
 use Rattle.egraph.specs.ClassLists.{ListSays, TotalSays, list_held, total_held}
@@ -29,6 +28,7 @@ use Rattle.theorems.specs.Course.{Run, ids_in, run_adding, run_rebuild, run_unio
 use Rattle.theorems.specs.Forms.{BestForm, run_form}
 use Rattle.theorems.specs.Outcomes.{clean_or, full_or, low_or, or_lt, two_or}
 use Rattle.theorems.specs.Sizes.{Smallest, run_cost}
+use Rattle.std.proofs.lemmas.Option.{none-some}
 
 -- refused by k, and S: nothing has changed
 abbrev pub No : Answer → Type 0 → ℕ → Type 0
@@ -174,7 +174,7 @@ room_or : (g : Graph) (h : Head) (x : Term) → ((kept_for g x ≡ None) × Full
 room_or g h x = go (kept_for g x) refl (full_or h x)
   where
     go : (o : Option ℕ) → kept_for g x ≡ o → Full h x ⊎ Room h x → ((kept_for g x ≡ None) × Full h x) ⊎ ((kept_for g x ≢ None) ⊎ Room h x)
-    go (Some i) e d = inr (inl (λ n. none≢some (sym n ∙ e)))
+    go (Some i) e d = inr (inl (λ n. none-some _ (sym n ∙ e)))
     go None e (inl f) = inl (e, f)
     go None e (inr f) = inr (inr f)
 

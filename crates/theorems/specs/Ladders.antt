@@ -5,9 +5,8 @@
 use Rattle.egraph.specs.declared.Refusal.{Refusal}
 use Rattle.language.specs.declared.Id.{Id}
 use Rattle.extract.specs.declared.Form.{Form}
-use Rattle.std.specs.Prelude.{Bool, Option, Result, List, ◌⊎◌, ◌≡◌, ◌*◌, ◌<◌, ◌≤◌, ℕ, drop, length}
-use Rattle.std.proofs.Common.{inl, inr, ◌∙◌, ap, sym, arith}
-use Rattle.lists.specs.Reads.{at}
+use Rattle.std.specs.Prelude.{Bool, Option, Result, List, ◌⊎◌, ◌≡◌, ℕ, drop, length}
+use Rattle.std.proofs.Common.{inl, inr, ◌∙◌, ap, sym}
 use Rattle.lists.specs.Tests.{lt_or}
 use Rattle.language.specs.Struct.{node_of}
 use Rattle.language.specs.Term.{places}
@@ -24,41 +23,15 @@ use Rattle.egraph.specs.Unions.{UnionOpen, UnionSays}
 use Rattle.extract.specs.Cost.{CostOpen, CostSays}
 use Rattle.extract.specs.Form.{FormOpen, FormSays, form_says}
 use Rattle.layout.specs.Cut.{need}
-use Rattle.layout.specs.Head.{HeadOk, numbers}
-use Rattle.layout.specs.View.{hd}
 use Rattle.layout.specs.declared.Head.{Head}
-use Rattle.theorems.specs.Outcomes.{both_ends, clean_or, limits_or, low_or, or_lt, two_or}
+use Rattle.theorems.specs.Outcomes.{both_ends, clean_or, limits_or, low_or, or_lt, two_or, count_same, empty_same, clean_same, dec_or}
+use Rattle.egraph.specs.Whole.{good_test}
 
 -- ---- decisions
 
--- numbers in range, or not
-ok_or : (len : ℕ) (s : Head) → (HeadOk len s → ⊥) ⊎ HeadOk len s
-ok_or len s =
-    go (or_lt 0 s.n) (lt_or 65536 s.n) (lt_or 262144 s.m) (lt_or s.n s.ids) (lt_or s.m s.places) (lt_or (2 * s.n) s.depth) (lt_or s.ids s.classes)
-    (lt_or len (need s.n s.m))
-  where
-    go : (s.n ≤ 0) ⊎ (0 < s.n) → (65536 < s.n) ⊎ (s.n ≤ 65536) → (262144 < s.m) ⊎ (s.m ≤ 262144) → (s.n < s.ids) ⊎ (s.ids ≤ s.n) → (s.m < s.places) ⊎ (s.places ≤ s.m)
-        → (2 * s.n < s.depth) ⊎ (s.depth ≤ 2 * s.n) → (s.ids < s.classes) ⊎ (s.classes ≤ s.ids) → (len < need s.n s.m) ⊎ (need s.n s.m ≤ len)
-        → (HeadOk len s → ⊥) ⊎ HeadOk len s
-    go (inl a) b c d e f h k = inl (λ o. omega (arith, o.n_low))
-    go (inr a) (inl b) c d e f h k = inl (λ o. omega (arith, o.n_high))
-    go (inr a) (inr b) (inl c) d e f h k = inl (λ o. omega (arith, o.m_high))
-    go (inr a) (inr b) (inr c) (inl d) e f h k = inl (λ o. omega (arith, o.ids_in))
-    go (inr a) (inr b) (inr c) (inr d) (inl e) f h k = inl (λ o. omega (arith, o.places_in))
-    go (inr a) (inr b) (inr c) (inr d) (inr e) (inl f) h k = inl (λ o. omega (arith, o.depth_in))
-    go (inr a) (inr b) (inr c) (inr d) (inr e) (inr f) (inl h) k = inl (λ o. omega (arith, o.classes_in))
-    go (inr a) (inr b) (inr c) (inr d) (inr e) (inr f) (inr h) (inl k) = inl (λ o. omega (arith, o.lent))
-    go (inr a) (inr b) (inr c) (inr d) (inr e) (inr f) (inr h) (inr k) =
-        inr (record { n_low = omega arith; n_high = b; m_high = c; ids_in = d; places_in = e; depth_in = f; classes_in = h; lent = k })
-
 -- a good head, or not
 pub good_or : (ws : List ℕ) → (Good ws → ⊥) ⊎ Good ws
-good_or ws = go (lt_or 1 (at (hd ws) 6)) (ok_or (length ws) (numbers (hd ws)))
-  where
-    go : (1 < at (hd ws) 6) ⊎ (at (hd ws) 6 ≤ 1) → (HeadOk (length ws) (numbers (hd ws)) → ⊥) ⊎ HeadOk (length ws) (numbers (hd ws)) → (Good ws → ⊥) ⊎ Good ws
-    go (inl a) o = inl (λ q. omega (arith, q.flag))
-    go (inr a) (inl n) = inl (λ q. n q.ok)
-    go (inr a) (inr o) = inr (record { flag = a; ok = o })
+good_or ws = dec_or (good_test ws)
 
 -- ---- two outcomes on the same words
 
@@ -73,13 +46,13 @@ both_no p q = inl (p.0 ∙ sym q.0, p.1 ∙ sym q.1)
 module _ (ws : List ℕ) where
   -- what stands in the head is answered
   pub count_any : (r r' : Result ℕ Refusal) → CountSays ws r → CountSays ws r' → count_says r ≡ count_says r'
-  count_any r r' s t = both_ends (good_or ws) s t (λ p q. p ∙ sym q) (λ p q. p.exact ∙ sym q.exact)
+  count_any r r' s t = count_same ws r r' s t
 
   pub empty_any : (r r' : Result Bool Refusal) → EmptySays ws r → EmptySays ws r' → flag_says r ≡ flag_says r'
-  empty_any r r' s t = both_ends (good_or ws) s t (λ p q. p ∙ sym q) (λ p q. p.exact ∙ sym q.exact)
+  empty_any r r' s t = empty_same ws r r' s t
 
   pub clean_any : (r r' : Result Bool Refusal) → CleanSays ws r → CleanSays ws r' → flag_says r ≡ flag_says r'
-  clean_any r r' s t = both_ends (good_or ws) s t (λ p q. p ∙ sym q) (λ p q. p.exact ∙ sym q.exact)
+  clean_any r r' s t = clean_same ws r r' s t
 
   -- a node in hand: 3, 5 and 4
   node_any : (x : Node) {No No' : ℕ → Type 0} {X X' R : Type 0} → NodeLadder ws x No X → NodeLadder ws x No' X' → ((k : ℕ) → No k → No' k → R) → (X → X' → R) → R

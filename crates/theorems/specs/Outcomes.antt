@@ -11,14 +11,14 @@ use Rattle.std.proofs.Math.Decide.{dec_lt}
 use Rattle.lists.specs.Reads.{at}
 use Rattle.lists.specs.Tests.{lt_or}
 use Rattle.language.specs.Struct.{node_of}
-use Rattle.language.specs.Term.{Term, places}
+use Rattle.language.specs.Term.{Term, places, Known}
 use Rattle.language.specs.declared.Node.{Node}
 use Rattle.steps.specs.Classes.{classes, classes_for_op, nodes}
 use Rattle.steps.specs.Forced.{Made}
 use Rattle.steps.specs.Graph.{Graph}
 use Rattle.steps.specs.Machine.{fresh}
 use Rattle.closure.specs.Ends.{ends}
-use Rattle.adding.specs.Says.{Full, Known, Room, kept_for}
+use Rattle.adding.specs.Says.{Full, Room, kept_for}
 use Rattle.egraph.specs.Adds.{Adding, AddingSays, LookupSays, NodeLadder}
 use Rattle.egraph.specs.Answers.{Answer, Else, ListAt, Lists, SameLimits, Unless3, Unless7, id_says, count_says, flag_says, head_of, held_clean, lookup_says, no_by, node_says, setup_says, yes_with}
 use Rattle.egraph.specs.ClassLists.{ClassesSays, ForOpSays, ListSays, TotalSays, list_held, total_held, total_in}
@@ -71,7 +71,7 @@ or_lt x y = go (lt_or x y)
     go (inl a) = inr a
     go (inr a) = inl a
 
-dec_or : {P : Type 0} → Dec P → (P → ⊥) ⊎ P
+pub dec_or : {P : Type 0} → Dec P → (P → ⊥) ⊎ P
 dec_or (no n) = inl n
 dec_or (yes p) = inr p
 

@@ -19,8 +19,9 @@ use Rattle.layout.specs.Head.{HeadOk}
 use Rattle.layout.specs.View.{View, view}
 use Rattle.layout.specs.declared.Head.{Head}
 use Rattle.tidying.specs.Class.{class_sorted}
-use Rattle.tidying.specs.Says.{ClassTidied, Tidies, TidiesClass, cleaned}
+use Rattle.tidying.specs.Says.{ClassTidied, Tidies, TidiesClass}
 use Rattle.unionfind.specs.Forest.{root_low}
+use Rattle.holds.specs.HoldsLaws.{marked_head}
 
 -- the lists below i are tidy
 pub record TidyBelow (h : Head) (u : ℕ) (v : View) (g : Graph) (i : ℕ) : Type 0 where
@@ -53,7 +54,7 @@ tidy_past h u v g H q past =
     let s = class_sorted g h.n h.ids v.members H.members H.ids_are q in
     rw e (rw e at s)
 
-tidy_all : (h : Head) (u : ℕ) (v : View) (g : Graph) (i : ℕ) → h.ids ≤ i → TidyBelow h u v g i → HoldsAt (cleaned h) u v (marked g true)
+tidy_all : (h : Head) (u : ℕ) (v : View) (g : Graph) (i : ℕ) → h.ids ≤ i → TidyBelow h u v g i → HoldsAt (marked_head h true) u v (marked g true)
 tidy_all h u v g i end T =
     let H = T.holds in
     record {
@@ -103,10 +104,10 @@ module _ (h : Head) (ws : List ℕ) where
       sound = λ g u H now. let T = A.sound g u H now in apart e (C.sound g u T.holds T.keys).0;
     }
 
-  pub tidied_all : (i : ℕ) (ws' : List ℕ) → HeadOk (length ws) h → h.ids ≤ i → TidiedTo h ws ws' i → Tidies h ws (Ok (cleaned h)) ws'
+  pub tidied_all : (i : ℕ) (ws' : List ℕ) → HeadOk (length ws) h → h.ids ≤ i → TidiedTo h ws ws' i → Tidies h ws (Ok (marked_head h true)) ws'
   tidied_all i ws' ok end A = record {
     inside = A.inside;
-    exact = λ k (e : Ok (cleaned h) ≡ Ok k). cc;
-    range = λ k (e : Ok (cleaned h) ≡ Ok k). let is : cleaned h ≡ k = cc in subst (λ (s : Head). Near (length ws) h s) is (record { ok = omega arith; n_is = refl; m_is = refl });
+    exact = λ k (e : Ok (marked_head h true) ≡ Ok k). cc;
+    range = λ k (e : Ok (marked_head h true) ≡ Ok k). let is : marked_head h true ≡ k = cc in subst (λ (s : Head). Near (length ws) h s) is (record { ok = omega arith; n_is = refl; m_is = refl });
     sound = λ g u H now. (refl, tidy_all h u (view h.n h.m ws') g i end (A.sound g u H now));
   }

@@ -8,7 +8,6 @@ use Rattle.lists.specs.Tests.{zero_one}
 use Rattle.steps.specs.Graph.{Graph}
 use Rattle.cells.specs.Empty.{Emptied}
 use Rattle.cells.specs.Pool.{empty_l, row}
-use Rattle.cells.specs.Reading.{Word}
 use Rattle.holds.specs.Holds.{HoldsAt, UpToDate}
 use Rattle.holds.specs.Inside.{Inside, inside_lent, inside_same, inside_then}
 use Rattle.layout.specs.Both.{LentBoth, both_next}
@@ -23,6 +22,7 @@ use Rattle.tidying.specs.Class.{class_few, class_length, class_short, class_sort
 use Rattle.tidying.specs.Copy.{Copies}
 use Rattle.tidying.specs.Refill.{Refills}
 use Rattle.tidying.specs.Says.{ClassTidied, TidiesClass}
+use Rattle.lists.specs.Reads.{Word}
 
 module _ (h : Head) (a : ℕ) (ws : List ℕ) (ok : HeadOk (length ws) h) (ha : a < h.n) (k : ℕ) (W : Word (view h.n h.m ws).members (a + h.n + h.n) k) where
   pub class_long : h.n < k → TidiesClass h a ws broken ws

@@ -5,10 +5,9 @@ use Rattle.broken.specs.declared.Broken.{Broken}
 use Rattle.broken.specs.Words.{broken}
 use Rattle.std.proofs.Common.{◌∙◌, sym, arith}
 use Rattle.layout.specs.Idle.{lent_same}
-use Rattle.lists.specs.Reads.{at}
+use Rattle.lists.specs.Reads.{at, Word}
 use Rattle.cells.specs.Cursor.{Cursor, cursor_low, cursor_start}
 use Rattle.cells.specs.Pool.{Pool, row}
-use Rattle.cells.specs.Reading.{Word}
 use Rattle.layout.specs.Cut.{need, sorting}
 use Rattle.layout.specs.Lent.{Lent, lent_map}
 use Rattle.layout.specs.View.{view}

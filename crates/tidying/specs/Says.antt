@@ -10,6 +10,7 @@ use Rattle.holds.specs.Holds.{HoldsAt, UpToDate}
 use Rattle.holds.specs.Inside.{Inside, Near}
 use Rattle.layout.specs.View.{View, view}
 use Rattle.layout.specs.declared.Head.{Head}
+use Rattle.holds.specs.HoldsLaws.{marked_head}
 
 -- the words hold the graph as before, but list a: it has the ids of the class's nodes
 pub record ClassTidied {h : Head} {u : ℕ} {v : View} {g : Graph} (H : HoldsAt h u v g) (a : ℕ) (v' : View) : Type 0 where
@@ -24,13 +25,10 @@ pub record TidiesClass (h : Head) (a : ℕ) (ws : List ℕ) (r : Result Unit Bro
   pub inside : Inside h.n h.m ws ws'
   pub sound : (g : Graph) (u : ℕ) (H : HoldsAt h u (view h.n h.m ws) g) → UpToDate H → (r ≡ Ok tt) × ClassTidied H a (view h.n h.m ws')
 
-abbrev pub cleaned : Head → Head
-cleaned h = record { n = h.n; m = h.m; ids = h.ids; places = h.places; depth = h.depth; classes = h.classes; clean = true }
-
 -- what `tidy` promises
 pub record Tidies (h : Head) (ws : List ℕ) (r : Result Head Broken) (ws' : List ℕ) : Type 0 where
   pub inside : Inside h.n h.m ws ws'
-  pub exact : (k : Head) → r ≡ Ok k → k ≡ cleaned h
+  pub exact : (k : Head) → r ≡ Ok k → k ≡ marked_head h true
   pub range : (k : Head) → r ≡ Ok k → Near (length ws) h k
   pub sound : (g : Graph) (u : ℕ) (H : HoldsAt h u (view h.n h.m ws) g) → UpToDate H
-      → (r ≡ Ok (cleaned h)) × HoldsAt (cleaned h) u (view h.n h.m ws') (marked g true)
+      → (r ≡ Ok (marked_head h true)) × HoldsAt (marked_head h true) u (view h.n h.m ws') (marked g true)

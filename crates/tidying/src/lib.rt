@@ -23,7 +23,8 @@ use broken::Broken;
 use language::Id;
 use layout::GraphMut;
 
-// The k ids of a list to the start of the work area, in list order: the walk goes back from the last. No method of slices copies linked cells.
+// The k ids of a list to the start of the work area, in list order: the walk goes back from the last. No method of slices copies linked cells, and an iterator
+// would borrow the words that each turn writes to.
 fn copy(g: &mut GraphMut<'_>, list: Id, k: usize) -> Result<(), Broken>
     requires { (list.0 < g.old.h.n) × (k ≤ g.old.h.n) }
     ensures { Did (Lent sorting g.old.h.n g.old.h.m (Copies (view g.old.h.n g.old.h.m g.old.ws.now).members g.old.h.n list.0 k result)) g.old g.new }

@@ -3,12 +3,12 @@ ghost use Rattle.std.specs.Prelude.{◌<◌};
 
 use egraph::Refusal;
 
-// 0 for an answer of whatever type, or the number of the refusal: a place in the tally, and nothing that is printed.
-pub fn number<T: Copy>(answer: Result<T, Refusal>) -> usize
+// The answer's place in the tally, and what the program writes of it.
+pub fn number(answer: Result<(), Refusal>) -> usize
     ensures { result < 10 }
 {
     match answer {
-        Ok(_) => 0,
+        Ok(()) => 0,
         Err(why) => why.number() as usize,
     }
 }

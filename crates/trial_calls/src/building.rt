@@ -1,7 +1,8 @@
 // A good graph: nodes and unions as they are drawn, and most often a rebuild.
 ghost use Rattle.std.specs.Prelude.{◌≡◌, ◌<◌, length};
 
-use super::words::{FROM, IDS, PLACES, TO, draw, draw_word, next};
+use super::words::{FROM, IDS, PLACES, TO, draw, draw_word};
+use drawing::Draws;
 use language::{Id, Node, Op};
 
 // A child: an id that may not be there yet.
@@ -26,17 +27,13 @@ pub fn some_node(seed: u64) -> Node {
 }
 
 fn add_nodes(ws: &mut [u32], seed: u64, count: usize) {
-    let mut x = seed;
-    for _ in 0..count {
-        x = next(x);
+    for x in Draws::new(seed).take(count) {
         let _ = egraph::add(ws, some_node(x));
     }
 }
 
 fn union_ids(ws: &mut [u32], seed: u64, count: usize) {
-    let mut x = seed;
-    for _ in 0..count {
-        x = next(x);
+    for x in Draws::new(seed).take(count) {
         let _ = egraph::union(ws, child(x, 6), child(x, 7));
     }
 }

@@ -30,8 +30,8 @@ const TURNS: u64 = 2000;
 
 fn main(rt: HostRuntime) -> io::Result<()> {
     text::no_words(&rt, calls::find_in_no_words())?;
-    for call in CALLS {
-        text::report(&rt, call.name(), &trials::trials(call, TURNS))?;
+    for (name, call) in CALLS {
+        text::report(&rt, name, &trials::trials(call, TURNS))?;
     }
     Ok(())
 }

@@ -2,6 +2,7 @@
 ghost use Rattle.std.specs.Prelude.{◌<◌};
 
 use super::words::{FROM, NEED, SIZE, draw, draw_word, next};
+use drawing::Draws;
 
 // What is done on a turn.
 #[derive(Clone, Copy, PartialEq, Eq)]
@@ -32,9 +33,7 @@ fn one_word(ws: &mut [u32; SIZE], seed: u64) {
 }
 
 fn some_words(ws: &mut [u32; SIZE], seed: u64, count: usize) {
-    let mut x = seed;
-    for _ in 0..count {
-        x = next(x);
+    for x in Draws::new(seed).take(count) {
         one_word(ws, x);
     }
 }
@@ -55,23 +54,23 @@ fn some_head(ws: &mut [u32; SIZE], seed: u64) {
 }
 
 fn all_words(ws: &mut [u32; SIZE], seed: u64) {
-    let mut x = seed;
-    for word in &mut ws[FROM + 32..FROM + NEED] {
-        x = next(x);
+    for (word, x) in ws[FROM + 32..FROM + NEED].iter_mut().zip(Draws::new(seed)) {
         *word = draw_word(x, 29, 16);
     }
 }
 
+// The turns take one after another.
+const WAYS: [Spoil; 5] = [
+    Spoil::Nothing,
+    Spoil::SomeWords,
+    Spoil::CutShort,
+    Spoil::HeadWord,
+    Spoil::AllWords,
+];
+
 impl Spoil {
-    // The turns take one after another.
     pub fn of_turn(turn: u64) -> Spoil {
-        match turn % 5 {
-            0 => Spoil::Nothing,
-            1 => Spoil::SomeWords,
-            2 => Spoil::CutShort,
-            3 => Spoil::HeadWord,
-            _ => Spoil::AllWords,
-        }
+        WAYS[(turn % 5) as usize]
     }
 
     // Whether the words stay those of a good graph.

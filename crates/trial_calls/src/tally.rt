@@ -1,10 +1,9 @@
 // What is counted over the trials of a call.
-ghost use Rattle.std.specs.Prelude.{◌<◌, ◌≤◌};
-
+use super::answers::number;
 use super::calls::Call;
 use super::spoiling::Spoil;
-use super::words::{FROM, SIZE};
-use drawing::changed;
+use drawing::Change;
+use egraph::Refusal;
 
 // How many calls there were, and how many of them answered each number. Then how many
 //
@@ -21,50 +20,36 @@ pub struct Tally {
     pub nines: u64,
 }
 
-// How many words of an array changed of those that the call was lent and its limits need; how many changed of all others.
-#[derive(Clone, Copy)]
-pub struct Change {
-    pub inside: u64,
-    pub outside: u64,
-}
-
-// The words that the call was lent, as far as its limits need them, end at `reach`. It counts the words that differ, which no `==` says.
-pub fn compare(old: &[u32; SIZE], new: &[u32; SIZE], reach: usize) -> Change
-    requires { (64 ≤ reach) × (reach ≤ 640) }
-{
-    let before = changed(&old[..FROM], &new[..FROM]);
-    let behind = changed(&old[reach..], &new[reach..]);
-    Change {
-        inside: changed(&old[FROM..reach], &new[FROM..reach]),
-        outside: before.wrapping_add(behind),
-    }
-}
-
-// Whether a call that answered a number may change words of the graph.
-fn may_change(call: Call, number: usize) -> bool {
-    !call.keeps_words() && (number == 0 || number == 9)
+// Whether a call with this answer may change words of the graph.
+fn may_change(call: Call, answer: Result<(), Refusal>) -> bool {
+    !call.keeps_words() && matches!(answer, Ok(()) | Err(Refusal::BrokenWords))
 }
 
 // Whether a call changed a word which it must keep.
-fn lapsed(call: Call, number: usize, graph: u64, list: u64) -> bool {
-    (graph > 0 && !may_change(call, number)) || (list > 0 && number != 0)
+fn lapsed(call: Call, answer: Result<(), Refusal>, graph: u64, list: u64) -> bool {
+    (graph > 0 && !may_change(call, answer)) || (list > 0 && answer.is_err())
 }
 
 // The sums wrap, so no call needs a bound on them.
 impl Tally {
-    // One call more, with the number that it answered.
-    pub fn answered(&mut self, number: usize, spoil: Spoil)
-        requires { number < 10 }
-    {
-        let nines = u64::from(number == 9 && spoil.keeps());
+    // One call more, with its answer.
+    pub fn answered(&mut self, answer: Result<(), Refusal>, spoil: Spoil) {
+        let place = number(answer);
+        let nine = answer == Err(Refusal::BrokenWords) && spoil.keeps();
         self.calls = self.calls.wrapping_add(1);
-        self.answers[number] = self.answers[number].wrapping_add(1);
-        self.nines = self.nines.wrapping_add(nines);
+        self.answers[place] = self.answers[place].wrapping_add(1);
+        self.nines = self.nines.wrapping_add(u64::from(nine));
     }
 
     // What it changed of the array with the graph, and of that with the list.
-    pub fn changes(&mut self, call: Call, number: usize, graph: Change, list: Change) {
-        let lapse = lapsed(call, number, graph.inside, list.inside);
+    pub fn changes(
+        &mut self,
+        call: Call,
+        answer: Result<(), Refusal>,
+        graph: Change,
+        list: Change,
+    ) {
+        let lapse = lapsed(call, answer, graph.inside, list.inside);
         let outside = graph.outside.wrapping_add(list.outside);
         self.outside = self.outside.wrapping_add(outside);
         self.lapses = self.lapses.wrapping_add(u64::from(lapse));

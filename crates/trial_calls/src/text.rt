@@ -1,7 +1,7 @@
 // What the program writes.
-ghost use Rattle.std.specs.Prelude.{◌<◌};
-
+use super::answers::number;
 use super::tally::Tally;
+use egraph::Refusal;
 use std::io;
 
 // How many calls answered each number; those that none answered are left out.
@@ -15,10 +15,8 @@ fn answers(rt: &impl Print, tally: &Tally) -> io::Result<()> {
 }
 
 // What `find` answered on no words.
-pub fn no_words(rt: &impl Print, k: usize) -> io::Result<()>
-    requires { k < 10 }
-{
-    println!(rt; "find on no words: {k}")
+pub fn no_words(rt: &impl Print, answer: Result<(), Refusal>) -> io::Result<()> {
+    println!(rt; "find on no words: {}", number(answer))
 }
 
 // What came of the trials of a call.

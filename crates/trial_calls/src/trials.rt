@@ -6,7 +6,9 @@ use super::calls::Call;
 use super::spoiling::Spoil;
 use super::tally::Tally;
 use super::words::{FROM, SIZE, TO, draw, next};
-use super::{building, calls, tally};
+use super::{building, calls};
+use drawing::Change;
+use egraph::Refusal;
 
 // Where the words that a call is lent end, where those of them end that its limits need, and where the slice for a list ends.
 #[derive(Clone, Copy)]
@@ -16,26 +18,16 @@ struct Plan {
     list: usize,
 }
 
-// How many words the limits need, if a graph may be set up for them; else the call refuses them.
-fn need_by(n: u32, m: u32) -> Option<usize>
-    ensures { SomeIff result ((1 ≤ n) × (n ≤ 65536) × (m ≤ 262144)) (need n m) }
-{
-    let ids = n as usize;
-    let places = m as usize;
-    if !layout::limits_fit(ids, places) {
-        return None;
-    }
-    Some(layout::need(ids, places))
-}
-
 // By the limits of a setup, or else by those that stand in the head.
 fn need_of(ws: &[u32; SIZE], call: Call, seed: u64) -> Option<usize>
     ensures { IfSome result (λ words. words ≤ 3000000) }
 {
-    if call == Call::Setup {
-        return need_by(calls::limit_ids(seed), calls::limit_places(seed));
-    }
-    need_by(ws[FROM], ws[FROM + 1])
+    let (n, m) = if call == Call::Setup {
+        (calls::limit_ids(seed), calls::limit_places(seed))
+    } else {
+        (ws[FROM], ws[FROM + 1])
+    };
+    layout::words_for(n as usize, m as usize)
 }
 
 // Where those of the words up to `end` end that the limits need; of limits that are refused, none are needed.
@@ -76,10 +68,16 @@ fn plan_of(ws: &[u32; SIZE], call: Call, spoil: Spoil, seed: u64) -> Plan
 }
 
 // The call on the words up to `end`, with the slice up to `list`.
-fn lend(ws: &mut [u32], out: &mut [u32], end: usize, list: usize, call: Call, seed: u64) -> usize
+fn lend(
+    ws: &mut [u32],
+    out: &mut [u32],
+    end: usize,
+    list: usize,
+    call: Call,
+    seed: u64,
+) -> Result<(), Refusal>
     requires ws_len { (length ws.old ≡ 640) × (length out.old ≡ 640) }
     requires le_end { (64 ≤ end) × (end ≤ 576) × (64 ≤ list) × (list ≤ 576) }
-    ensures { result < 10 }
 {
     call.answer(&mut ws[FROM..end], &mut out[FROM..list], seed)
 }
@@ -89,11 +87,11 @@ fn counted(ws: &mut [u32; SIZE], call: Call, spoil: Spoil, seed: u64, tally: &mu
     let blank = out;
     let old = *ws;
     let p = plan_of(ws, call, spoil, seed);
-    let number = lend(ws, &mut out, p.end, p.list, call, seed);
-    tally.answered(number, spoil);
-    let graph = tally::compare(&old, ws, p.reach);
-    let list = tally::compare(&blank, &out, p.list);
-    tally.changes(call, number, graph, list);
+    let answer = lend(ws, &mut out, p.end, p.list, call, seed);
+    tally.answered(answer, spoil);
+    let graph = Change::of_part(&old, ws, FROM, p.reach);
+    let list = Change::of_part(&blank, &out, FROM, p.list);
+    tally.changes(call, answer, graph, list);
 }
 
 fn trial(call: Call, turn: u64, tally: &mut Tally) {

@@ -32,8 +32,8 @@ use try_unionfind::Unionfind;
 use words::SIZE;
 
 // What came of a part's calls on broken words.
-fn report(rt: &impl Print, part: &impl Part) -> io::Result<()> {
-    let plan = part.plan();
+fn report<P: Part>(rt: &impl Print, part: &P) -> io::Result<()> {
+    let plan = P::PLAN;
     let t = trials(part);
     print!(rt;
         "{} {} calls, {} words outside changed",
@@ -46,8 +46,8 @@ fn report(rt: &impl Print, part: &impl Part) -> io::Result<()> {
 }
 
 // What a part's calls on good words answer.
-fn show(rt: &impl Print, part: &impl Part) -> io::Result<()> {
-    print!(rt; "{} answers", part.plan().name)?;
+fn show<P: Part>(rt: &impl Print, part: &P) -> io::Result<()> {
+    print!(rt; "{} answers", P::PLAN.name)?;
     part.answers(rt, &mut [7; SIZE])?;
     println!(rt;)
 }

@@ -1,6 +1,6 @@
 // What the program writes of an answer, each time with a space in front.
 use broken::Broken;
-use language::Node;
+use language::Fit;
 use std::io;
 
 // A number, if the call did not find the words broken.
@@ -17,8 +17,8 @@ pub fn answer_or(rt: &impl Print, found: Result<usize, Broken>, lost: &str) -> i
 }
 
 // A node, if the call did not find the words broken: operator, payload, child count and children.
-pub fn node(rt: &impl Print, found: Result<Node, Broken>) -> io::Result<()> {
-    let Ok(node) = found else {
+pub fn node(rt: &impl Print, found: Result<Fit, Broken>) -> io::Result<()> {
+    let Ok(Fit { node, .. }) = found else {
         return print!(rt; " broken");
     };
     print!(rt; " {} {} {}", node.op.0, node.payload, node.count)?;

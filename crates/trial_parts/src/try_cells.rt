@@ -1,7 +1,7 @@
 // Linked cells: 8 lists of 40 cells.
 ghost use Rattle.std.specs.Prelude.{◌≡◌, ◌<◌};
 
-use super::trials::{Part, Plan};
+use super::trials::{Part, Plan, Turn};
 use super::words::{FROM, TO, Words};
 use super::{text, words};
 use cells::Pool;
@@ -48,7 +48,7 @@ fn pool(ws: &Words) -> Pool<'_>
     }
 }
 
-// How many cells a list has, and which, from the last on.
+// How many cells a list has, and which, from the last on: each by `nth`, which is what is tried.
 fn show(rt: &impl Print, ws: &Words, list: usize) -> io::Result<()>
     requires { list < 8 }
 {
@@ -62,17 +62,14 @@ fn show(rt: &impl Print, ws: &Words, list: usize) -> io::Result<()>
 }
 
 impl Part for Cells {
-    fn plan(&self) -> Plan {
-        Plan {
-            name: "cells",
-            still: Some("refused"),
-            turns: 200,
-            calls: 6,
-            lo: FROM,
-            hi: TO,
-            bound: 42,
-        }
-    }
+    const PLAN: Plan = Plan {
+        name: "cells",
+        still: Some("refused"),
+        turns: 200,
+        lo: FROM,
+        hi: TO,
+        bound: 42,
+    };
 
     // Lists of 8 cells each, in the first 5 of them.
     fn good(&self, ws: &mut Words) {
@@ -82,27 +79,20 @@ impl Part for Cells {
         }
     }
 
-    fn call(&self, ws: &mut Words, which: u64, seed: u64) -> bool {
-        // Not an enum: `which` only counts the calls of a turn, nothing else reads it, and the names of an enum would be written once here and once
-        // in the list that is gone through.
-        match which {
-            0 => {
-                let list = words::draw(seed, 6, LISTS);
-                let _ = pool(ws).nth(list, words::draw(seed, 7, CELLS + 5));
-                false
-            }
-            1 => push(ws, words::draw(seed, 1, LISTS), words::draw(seed, 2, CELLS)),
-            2 => remove(ws, words::draw(seed, 4, LISTS), words::draw(seed, 5, CELLS)),
-            3 => join_next(ws, words::draw(seed, 3, LISTS - 1)),
-            4 => {
-                cells::empty(&mut ws[FROM..TO], LISTS, words::draw(seed, 8, LISTS));
-                false
-            }
-            _ => {
-                cells::clear(&mut ws[FROM..TO], LISTS);
-                false
-            }
-        }
+    fn calls(&self, turn: &mut Turn, seed: u64) {
+        turn.call(|ws| {
+            let list = words::draw(seed, 6, LISTS);
+            let _ = pool(ws).nth(list, words::draw(seed, 7, CELLS + 5));
+        });
+        turn.call_or_still(|ws| push(ws, words::draw(seed, 1, LISTS), words::draw(seed, 2, CELLS)));
+        turn.call_or_still(|ws| remove(
+            ws,
+            words::draw(seed, 4, LISTS),
+            words::draw(seed, 5, CELLS),
+        ));
+        turn.call_or_still(|ws| join_next(ws, words::draw(seed, 3, LISTS - 1)));
+        turn.call(|ws| cells::empty(&mut ws[FROM..TO], LISTS, words::draw(seed, 8, LISTS)));
+        turn.call(|ws| cells::clear(&mut ws[FROM..TO], LISTS));
     }
 
     // List 2 is 4 7 30. With list 3, which is 9 5, joined to it, it is 4 7 30 9 5, and list 3 has no cell. Without cell 7, it is 4 30 9 5.

@@ -1,5 +1,5 @@
 // The head of a graph: 64 words are enough for one id and one place.
-use super::trials::{Part, Plan};
+use super::trials::{Part, Plan, Turn};
 use super::words::{FROM, TO, Words};
 use layout::Head;
 use std::io;
@@ -18,17 +18,14 @@ fn show(rt: &impl Print, ws: &Words) -> io::Result<()> {
 }
 
 impl Part for Layout {
-    fn plan(&self) -> Plan {
-        Plan {
-            name: "layout",
-            still: Some("idle"),
-            turns: 200,
-            calls: 1,
-            lo: FROM,
-            hi: TO,
-            bound: 3,
-        }
-    }
+    const PLAN: Plan = Plan {
+        name: "layout",
+        still: Some("idle"),
+        turns: 200,
+        lo: FROM,
+        hi: TO,
+        bound: 3,
+    };
 
     // A fresh head.
     fn good(&self, ws: &mut Words) {
@@ -36,11 +33,13 @@ impl Part for Layout {
     }
 
     // Reads the head, and if it is good writes it back, which changes nothing.
-    fn call(&self, ws: &mut Words, _which: u64, _seed: u64) -> bool {
-        if let Some(h) = layout::read_head(&ws[FROM..TO]) {
-            layout::write_head(&mut ws[FROM..TO], h);
-        }
-        true
+    fn calls(&self, turn: &mut Turn, _seed: u64) {
+        turn.call_or_still(|ws| {
+            if let Some(h) = layout::read_head(&ws[FROM..TO]) {
+                layout::write_head(&mut ws[FROM..TO], h);
+            }
+            true
+        });
     }
 
     // A fresh head, one with each number at its most, and one whose flag is 2.

@@ -1,7 +1,7 @@
 // The stack of what waits: 32 entries.
 ghost use Rattle.std.specs.Prelude.{◌<◌, ◌≤◌};
 
-use super::trials::{Part, Plan};
+use super::trials::{Part, Plan, Turn};
 use super::words;
 use super::words::{FROM, TO, Words};
 use pending::OnTop;
@@ -40,17 +40,14 @@ fn show(rt: &impl Print, ws: &Words, depth: usize) -> io::Result<()>
 }
 
 impl Part for Pending {
-    fn plan(&self) -> Plan {
-        Plan {
-            name: "pending",
-            still: Some("idle"),
-            turns: 200,
-            calls: 3,
-            lo: FROM,
-            hi: TO,
-            bound: 40,
-        }
-    }
+    const PLAN: Plan = Plan {
+        name: "pending",
+        still: Some("idle"),
+        turns: 200,
+        lo: FROM,
+        hi: TO,
+        bound: 40,
+    };
 
     // Every entry a stretch of two places.
     fn good(&self, ws: &mut Words) {
@@ -60,32 +57,24 @@ impl Part for Pending {
     }
 
     // A stretch of no place changes no word.
-    fn call(&self, ws: &mut Words, which: u64, seed: u64) -> bool {
-        // Not an enum: `which` only counts the calls of a turn, nothing else reads it, and the names of an enum would be written once here and once
-        // in the list that is gone through.
-        match which {
-            0 => {
-                top(ws, 1 + words::draw(seed, 1, ENTRIES));
-                false
-            }
-            1 => {
-                push_one(
-                    ws,
-                    words::draw(seed, 2, ENTRIES),
-                    words::draw(seed, 3, 30000),
-                );
-                false
-            }
-            _ => {
-                let depth = words::draw(seed, 4, ENTRIES);
-                push_stretch(
-                    ws,
-                    depth,
-                    words::draw(seed, 5, 30000),
-                    words::draw(seed, 6, 3),
-                ) == depth
-            }
-        }
+    fn calls(&self, turn: &mut Turn, seed: u64) {
+        turn.call(|ws| {
+            top(ws, 1 + words::draw(seed, 1, ENTRIES));
+        });
+        turn.call(|ws| push_one(
+            ws,
+            words::draw(seed, 2, ENTRIES),
+            words::draw(seed, 3, 30000),
+        ));
+        turn.call_or_still(|ws| {
+            let depth = words::draw(seed, 4, ENTRIES);
+            push_stretch(
+                ws,
+                depth,
+                words::draw(seed, 5, 30000),
+                words::draw(seed, 6, 3),
+            ) == depth
+        });
     }
 
     // The id 7, and on it the stretch of 3 places that ends at 5; a stretch of no place leaves the depth at 2.

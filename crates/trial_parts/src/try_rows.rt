@@ -1,12 +1,11 @@
 // Stored nodes: 8 ids with 16 places for children.
 ghost use Rattle.std.specs.Prelude.{◌≡◌, ◌+◌, ◌<◌, ◌≤◌};
-ghost use Rattle.language.specs.Term.{places};
 
-use super::trials::{Part, Plan};
+use super::trials::{Part, Plan, Turn};
 use super::words::{FROM, TO, Words};
 use super::{nodes, text, words};
 use broken::Broken;
-use language::{Id, Node};
+use language::{Fit, Id};
 use rows::Nodes;
 use std::io;
 
@@ -17,11 +16,10 @@ const PLACES: usize = 16;
 pub struct Rows;
 
 // A node and its key for an id.
-fn store(ws: &mut Words, id: Id, place: usize, node: Node, key: Node)
-    requires id_lt_8 { (id.0 < 8) × (place + node.count ≤ 16) }
-    requires count_le_places { (node.count ≤ places) × (key.count ≡ node.count) }
+fn store(ws: &mut Words, id: Id, place: usize, given: Fit, key: Fit)
+    requires { (id.0 < 8) × (place + given.node.count ≤ 16) × (key.node.count ≡ given.node.count) }
 {
-    rows::store(&mut ws[FROM..TO], IDS, PLACES, id, place, node, key);
+    rows::store(&mut ws[FROM..TO], IDS, PLACES, id, place, given, key);
 }
 
 // The rows, to be read.
@@ -35,23 +33,23 @@ fn stored(ws: &Words) -> Nodes<'_>
     }
 }
 
-fn given(ws: &Words, id: Id) -> Result<Node, Broken>
+fn given(ws: &Words, id: Id) -> Result<Fit, Broken>
     requires { id.0 < 8 }
 {
     stored(ws).given(id)
 }
 
-fn key(ws: &Words, id: Id) -> Result<Node, Broken>
+fn key(ws: &Words, id: Id) -> Result<Fit, Broken>
     requires { id.0 < 8 }
 {
     stored(ws).key(id)
 }
 
 // Whether the rows refused.
-fn set_key(ws: &mut Words, id: Id, node: Node) -> bool
-    requires { (id.0 < 8) × (node.count ≤ places) }
+fn set_key(ws: &mut Words, id: Id, key: Fit) -> bool
+    requires { id.0 < 8 }
 {
-    rows::set_key(&mut ws[FROM..TO], IDS, PLACES, id, node).is_err()
+    rows::set_key(&mut ws[FROM..TO], IDS, PLACES, id, key).is_err()
 }
 
 // Any node that fits, at any place.
@@ -72,55 +70,43 @@ fn show_both(rt: &impl Print, ws: &Words, id: Id) -> io::Result<()>
 }
 
 impl Part for Rows {
-    fn plan(&self) -> Plan {
-        Plan {
-            name: "rows",
-            still: Some("refused"),
-            turns: 150,
-            calls: 4,
-            lo: FROM,
-            hi: TO,
-            bound: 10,
-        }
-    }
+    const PLAN: Plan = Plan {
+        name: "rows",
+        still: Some("refused"),
+        turns: 150,
+        lo: FROM,
+        hi: TO,
+        bound: 10,
+    };
 
     // A node with two children for each id.
     fn good(&self, ws: &mut Words) {
         for i in 0..8 {
-            let node = spelling::node_of(i % 3, i / 2, &[i, 7 - i]);
+            let node = nodes::over(i % 3, i / 2, &[i, 7 - i]);
             store(ws, Id(i), 2 * i as usize, node, node);
         }
     }
 
-    fn call(&self, ws: &mut Words, which: u64, seed: u64) -> bool {
-        // Not an enum: `which` only counts the calls of a turn, nothing else reads it, and the names of an enum would be written once here and once
-        // in the list that is gone through.
-        match which {
-            0 => {
-                let _ = given(ws, Id(words::draw_word(seed, 1, IDS)));
-                false
-            }
-            1 => {
-                let _ = key(ws, Id(words::draw_word(seed, 2, IDS)));
-                false
-            }
-            2 => {
-                let id = words::draw_word(seed, 6, IDS);
-                set_key(ws, Id(id), nodes::some_node(seed, words::draw(seed, 7, 4)))
-            }
-            _ => {
-                store_some(ws, seed);
-                false
-            }
-        }
+    fn calls(&self, turn: &mut Turn, seed: u64) {
+        turn.call(|ws| {
+            let _ = given(ws, Id(words::draw_word(seed, 1, IDS)));
+        });
+        turn.call(|ws| {
+            let _ = key(ws, Id(words::draw_word(seed, 2, IDS)));
+        });
+        turn.call_or_still(|ws| {
+            let id = words::draw_word(seed, 6, IDS);
+            set_key(ws, Id(id), nodes::some_node(seed, words::draw(seed, 7, 4)))
+        });
+        turn.call(|ws| store_some(ws, seed));
     }
 
     // The node of 3 is 11 21 with children 5 6, and its key has 5 5. Another key has 4 4.
     fn answers(&self, rt: &impl Print, ws: &mut Words) -> io::Result<()> {
-        let node = spelling::node_of(11, 21, &[5, 6]);
-        store(ws, Id(3), 14, node, spelling::node_of(11, 21, &[5, 5]));
+        let node = nodes::over(11, 21, &[5, 6]);
+        store(ws, Id(3), 14, node, nodes::over(11, 21, &[5, 5]));
         show_both(rt, ws, Id(3))?;
-        set_key(ws, Id(3), spelling::node_of(11, 21, &[4, 4]));
+        set_key(ws, Id(3), nodes::over(11, 21, &[4, 4]));
         show_both(rt, ws, Id(3))
     }
 }

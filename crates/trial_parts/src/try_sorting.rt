@@ -1,11 +1,11 @@
 // The sort: 8 ids with 8 places for children. The rows, which are only read, count as words outside: what is lent to be changed starts at WORK.
 ghost use Rattle.std.specs.Prelude.{◌<◌, ◌≤◌};
 
-use super::trials::{Part, Plan};
+use super::trials::{Part, Plan, Turn};
 use super::words::{FROM, TO, Words};
-use super::{text, words};
+use super::{nodes, text, words};
 use broken::Broken;
-use language::{Id, Node};
+use language::{Fit, Id};
 use std::io;
 
 const IDS: usize = 8;
@@ -17,8 +17,8 @@ const WORK: usize = 56;
 pub struct Sorting;
 
 // An id with its key, which has one child at most.
-fn store_key(ws: &mut Words, id: u32, key: Node)
-    requires { (id < 8) × (key.count ≤ 1) }
+fn store_key(ws: &mut Words, id: u32, key: Fit)
+    requires { (id < 8) × (key.node.count ≤ 1) }
 {
     rows::store(
         &mut ws[FROM..WORK],
@@ -38,35 +38,33 @@ fn sort(ws: &mut Words, k: usize) -> Result<usize, Broken>
 }
 
 impl Part for Sorting {
-    fn plan(&self) -> Plan {
-        Plan {
-            name: "sorting",
-            still: Some("refused"),
-            turns: 100,
-            calls: 2,
-            lo: WORK,
-            hi: TO,
-            bound: 8,
-        }
-    }
+    const PLAN: Plan = Plan {
+        name: "sorting",
+        still: Some("refused"),
+        turns: 100,
+        lo: WORK,
+        hi: TO,
+        bound: 8,
+    };
 
     // A node with one child for each id, and the ids from 7 down to 0.
     fn good(&self, ws: &mut Words) {
         for i in 0..8 {
-            store_key(ws, i, spelling::node_of(i % 3, 0, &[i / 2]));
+            store_key(ws, i, nodes::over(i % 3, 0, &[i / 2]));
             ws[WORK + i as usize] = 7 - i;
         }
     }
 
-    fn call(&self, ws: &mut Words, which: u64, seed: u64) -> bool {
-        sort(ws, words::draw(seed, which % 4, IDS + 1)).is_err()
+    fn calls(&self, turn: &mut Turn, seed: u64) {
+        turn.call_or_still(|ws| sort(ws, words::draw(seed, 0, IDS + 1)).is_err());
+        turn.call_or_still(|ws| sort(ws, words::draw(seed, 1, IDS + 1)).is_err());
     }
 
     // The keys of 1, 2 and 0 ascend. Of four ids to sort, one of them twice, the sort leaves three: 1 2 0. With an 8 among them, which is no id, it refuses.
     fn answers(&self, rt: &impl Print, ws: &mut Words) -> io::Result<()> {
-        store_key(ws, 0, spelling::node_of(3, 0, &[]));
-        store_key(ws, 1, spelling::node_of(1, 5, &[]));
-        store_key(ws, 2, spelling::node_of(1, 5, &[0]));
+        store_key(ws, 0, nodes::over(3, 0, &[]));
+        store_key(ws, 1, nodes::over(1, 5, &[]));
+        store_key(ws, 2, nodes::over(1, 5, &[0]));
         ws[WORK..WORK + 4].copy_from_slice(&[0, 2, 1, 0]);
         text::answer(rt, sort(ws, 4))?;
         for id in &ws[WORK..WORK + 3] {

@@ -2,7 +2,7 @@
 ghost use Rattle.std.specs.Prelude.{◌<◌};
 
 use super::text::answer_or;
-use super::trials::{Part, Plan};
+use super::trials::{Part, Plan, Turn};
 use super::words;
 use super::words::{FROM, TO, Words};
 use std::io;
@@ -33,17 +33,14 @@ fn find_mut(ws: &mut Words, seed: u64) {
 
 impl Part for Unionfind {
     // No call is refused: a chain that does not end may have been halved for a while.
-    fn plan(&self) -> Plan {
-        Plan {
-            name: "unionfind",
-            still: None,
-            turns: 200,
-            calls: 4,
-            lo: FROM,
-            hi: TO,
-            bound: 70,
-        }
-    }
+    const PLAN: Plan = Plan {
+        name: "unionfind",
+        still: None,
+        turns: 200,
+        lo: FROM,
+        hi: TO,
+        bound: 70,
+    };
 
     // Each id the child of its half.
     fn good(&self, ws: &mut Words) {
@@ -53,16 +50,11 @@ impl Part for Unionfind {
         }
     }
 
-    fn call(&self, ws: &mut Words, which: u64, seed: u64) -> bool {
-        // Not an enum: `which` only counts the calls of a turn, nothing else reads it, and the names of an enum would be written once here and once
-        // in the list that is gone through.
-        match which {
-            0 => find(ws, seed),
-            1 => find_mut(ws, seed),
-            2 => union(ws, words::draw(seed, 5, 64), words::draw(seed, 6, 64)),
-            _ => make_set(ws, words::draw(seed, 7, 64)),
-        }
-        false
+    fn calls(&self, turn: &mut Turn, seed: u64) {
+        turn.call(|ws| find(ws, seed));
+        turn.call(|ws| find_mut(ws, seed));
+        turn.call(|ws| union(ws, words::draw(seed, 5, 64), words::draw(seed, 6, 64)));
+        turn.call(|ws| make_set(ws, words::draw(seed, 7, 64)));
     }
 
     // Of the first 10 ids, 1 and 2 go under 0. The root of 2 is 0, and when 0 goes under 5 it is 5, by both ways to find it; that of 9 is 9.

@@ -6,8 +6,9 @@
 //     TO .. SIZE        guards, never lent
 //
 // What stands in the part comes from a linear congruential generator, so that every run is the same.
-ghost use Rattle.std.specs.Prelude.{◌≤◌};
+ghost use Rattle.std.specs.Prelude.{ℕ, ◌<◌, ◌≤◌};
 
+use drawing::{Draws, below};
 pub use drawing::{draw, draw_word, next};
 
 pub const SIZE: usize = 80;
@@ -18,24 +19,13 @@ pub const TO: usize = 72;
 
 pub type Words = [u32; SIZE];
 
-// Every lent word anew, each below `bound`.
-fn fill_small(ws: &mut Words, seed: u64, bound: u64)
-    requires { 1 ≤ bound }
+// Every lent word anew, as `word` makes it of a number of the generator.
+fn fill<F: Fn(u64) -> u32>(ws: &mut Words, seed: u64, word: F)
+    requires { (x : ℕ) → x < 4294967296 → F.pre word x }
 {
-    let mut x = seed;
-    ws[FROM..TO].fill_with(|| {
-        x = next(x);
-        (x / 65536 % bound) as u32
-    });
-}
-
-// Every lent word anew, and any.
-fn fill_wild(ws: &mut Words, seed: u64) {
-    let mut x = seed;
-    ws[FROM..TO].fill_with(|| {
-        x = next(x);
-        x as u32
-    });
+    for (w, x) in ws[FROM..TO].iter_mut().zip(Draws::new(seed)) {
+        *w = word(x);
+    }
 }
 
 // One lent word anew, out of a number of the generator.
@@ -44,44 +34,63 @@ fn damage(ws: &mut Words, x: u64, w: u32) {
 }
 
 // A lent word anew, below `bound`.
-fn damage_below(ws: &mut Words, x: u64, bound: usize)
+fn damage_below(ws: &mut Words, x: u64, bound: u32)
     requires { (1 ≤ bound) × (bound ≤ 100) }
 {
-    damage(ws, x, draw_word(x, 1, bound));
+    damage(ws, x, draw_word(x, 1, bound as usize));
 }
 
-// Two lent words anew, below `bound`.
-fn damage_small(ws: &mut Words, seed: u64, bound: usize)
-    requires { (1 ≤ bound) × (bound ≤ 100) }
-{
-    damage_below(ws, seed, bound);
-    damage_below(ws, next(seed), bound);
+// How the words of a turn are broken.
+#[derive(Clone, Copy, PartialEq, Eq)]
+pub enum Spoil {
+    // All of them anew and small, so that most links stay inside.
+    AllSmall,
+    // All of them anew, below a bound.
+    AllBelow,
+    // All of them anew, and any.
+    AllWild,
+    // Two good words anew, below a bound.
+    TwoBelow,
+    // Two good words anew, and any.
+    TwoWild,
 }
 
-// Two lent words anew, and any.
-fn damage_wild(ws: &mut Words, seed: u64) {
-    let x = next(seed);
-    let y = next(x);
-    damage(ws, x, y as u32);
-    damage(ws, y, x as u32);
-}
+// The turns take one after another.
+const WAYS: [Spoil; 5] = [
+    Spoil::AllSmall,
+    Spoil::AllBelow,
+    Spoil::AllWild,
+    Spoil::TwoBelow,
+    Spoil::TwoWild,
+];
 
-// Whether the words of this turn are to be good ones before `spoil`.
-pub fn wants_good(turn: u64) -> bool {
-    turn % 5 > 2
-}
+impl Spoil {
+    pub fn of_turn(turn: u64) -> Spoil {
+        WAYS[(turn % 5) as usize]
+    }
 
-// Breaks the words in this turn's way: all of them small, so that most links stay inside; all below `bound`; all wild; a few small; a few wild.
-pub fn spoil(ws: &mut Words, turn: u64, bound: u64)
-    requires { (1 ≤ bound) × (bound ≤ 100) }
-{
-    let seed = next(turn);
-    // Not an enum: the turn goes round the five ways, and they are named by what they call.
-    match turn % 5 {
-        0 => fill_small(ws, seed, bound / 4 + 1),
-        1 => fill_small(ws, seed, bound),
-        2 => fill_wild(ws, seed),
-        3 => damage_small(ws, seed, bound as usize),
-        _ => damage_wild(ws, seed),
+    // Whether the words are to be good ones before.
+    pub fn wants_good(self) -> bool {
+        matches!(self, Spoil::TwoBelow | Spoil::TwoWild)
+    }
+
+    pub fn apply(self, ws: &mut Words, seed: u64, bound: u32)
+        requires { (1 ≤ bound) × (bound ≤ 100) }
+    {
+        let x = next(seed);
+        match self {
+            Spoil::AllSmall => fill(ws, seed, |d| below(d, bound / 4 + 1)),
+            Spoil::AllBelow => fill(ws, seed, |d| below(d, bound)),
+            Spoil::AllWild => fill(ws, seed, |d| d as u32),
+            Spoil::TwoBelow => {
+                damage_below(ws, seed, bound);
+                damage_below(ws, x, bound);
+            }
+            Spoil::TwoWild => {
+                let y = next(x);
+                damage(ws, x, y as u32);
+                damage(ws, y, x as u32);
+            }
+        }
     }
 }

@@ -5,12 +5,13 @@ use Rattle.std.specs.Prelude.{◌≡◌, refl, ◌⊎◌, ℕ, ◌≤◌, ◌<�
 use Rattle.std.proofs.Common.{sym, ap, ◌∙◌, inl, inr, arith, ext_get_or}
 use mathlib.Core.List.{List, [], filter}
 use Rattle.std.proofs.Math.Decide.{ℕ_discrete}
-use Rattle.lists.specs.Reads.{at, get_or_any}
+use Rattle.lists.specs.Reads.{at}
 use Rattle.lists.specs.Tests.{lt_or}
 use Rattle.lists.specs.Keeps.{upto, length_upto, mem_upto, mem_filter, length_filter}
 use Rattle.lists.specs.Members.{mem_length}
 use Rattle.unionfind.specs.Words.{walk}
 use Rattle.unionfind.specs.Walks.{Ends, walk_root, ends_suc, ends_more, walk_inside}
+use Rattle.std.proofs.lemmas.List.{get_or_default}
 
 -- how many ids below N are their own root
 abbrev pub class_count : List ℕ → ℕ → ℕ
@@ -81,4 +82,4 @@ determined {ps} {N} {C} {D} {R} {S} F G = (F.count ∙ ap (λ (l : List ℕ). cl
     lists = ext_get_or 0 R S (F.len ∙ sym G.len) (λ i h. go i h (rw F.len at h) (rw (F.len ∙ sym G.len) at h))
       where
         go : (i : ℕ) → i < length R → i < N → i < length S → at R i ≡ at S i
-        go i h n k = get_or_any R i 0 i h ∙ one_root i n ∙ get_or_any S i i 0 k
+        go i h n k = get_or_default R i 0 i h ∙ one_root i n ∙ get_or_default S i i 0 k

@@ -6,13 +6,13 @@ use Rattle.std.proofs.Common.{◌∙◌, arith}
 use Rattle.std.proofs.Math.ListN.{length}
 use Rattle.steps.specs.Graph.{Graph, root, uses}
 use Rattle.steps.specs.Machine.{union_by}
-use Rattle.cells.specs.Reading.{Word}
 use Rattle.holds.specs.Holds.{HoldsAt}
 use Rattle.holds.specs.ParentsLaws.{parents_len}
 use Rattle.layout.specs.Head.{HeadOk}
 use Rattle.layout.specs.View.{view}
 use Rattle.layout.specs.declared.Head.{Head}
 use Rattle.uniting.specs.Says.{JoinSays, MergeSays, merged_numbers}
+use Rattle.lists.specs.Reads.{Word}
 
 module _ (h : Head) (a b : ℕ) (ws : List ℕ) (ok : HeadOk (length ws) h) (q : (a < h.ids) × (b < h.ids) × (a ≢ b)) (x y : ℕ)
     (X : Word (view h.n h.m ws).uses (a + h.n + h.n) x) (Y : Word (view h.n h.m ws).uses (b + h.n + h.n) y) (r : Result Head Broken) (ws' : List ℕ) where

@@ -4,10 +4,9 @@ use Rattle.std.specs.Prelude.{Ok, Result, List, ◌≢◌, ◌≡◌, refl, ◌*
 use Rattle.broken.specs.declared.Broken.{Broken}
 use Rattle.broken.specs.Words.{apart, broken, err≢ok}
 use Rattle.std.proofs.Common.{subst, sym, arith}
-use Rattle.lists.specs.Reads.{at}
+use Rattle.lists.specs.Reads.{at, Word}
 use Rattle.steps.specs.Machine.{merge}
 use Rattle.cells.specs.Changes.{Joined}
-use Rattle.cells.specs.Reading.{Word}
 use Rattle.holds.specs.Holds.{HoldsAt}
 use Rattle.holds.specs.Inside.{Inside, inside_lent, inside_same, inside_then}
 use Rattle.layout.specs.Cut.{forest, members, pending, uses}

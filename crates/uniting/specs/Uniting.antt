@@ -9,7 +9,7 @@ use Rattle.lists.specs.Tests.{zero_one}
 use Rattle.steps.specs.Graph.{Graph, root, uses}
 use Rattle.steps.specs.Machine.{Joined, marked, union, union_by}
 use Rattle.holds.specs.Holds.{HoldsAt}
-use Rattle.holds.specs.HoldsLaws.{holds_forest, holds_unclean, unclean}
+use Rattle.holds.specs.HoldsLaws.{holds_forest, holds_unclean, marked_head}
 use Rattle.holds.specs.Inside.{Inside, inside_lent, inside_then}
 use Rattle.layout.specs.Cut.{forest}
 use Rattle.layout.specs.Head.{HeadOk}
@@ -67,7 +67,7 @@ root_own h u v g i H l = root_root H.forest i l
 
 -- ---- the ways out
 
-unclean_near : (len : ℕ) (h : Head) → HeadOk len h → NearIds len h (unclean h)
+unclean_near : (len : ℕ) (h : Head) → HeadOk len h → NearIds len h (marked_head h false)
 unclean_near len h ok = record { near = record { ok = omega arith; n_is = refl; m_is = refl }; ids_is = refl; places_is = refl }
 
 module _ (h : Head) (i j : ℕ) (ws ws1 : List ℕ) (r1 : Result ℕ Broken) (R1 : Lent forest h.n h.m (λ f f'. FindsMut f h.ids i r1 f') ws ws1) where
@@ -103,14 +103,14 @@ module _ (h : Head) (i j : ℕ) (ws ws1 : List ℕ) (r1 : Result ℕ Broken) (R1
       y_is g u H = let e = second g u H in cc
 
       -- one class already
-      pub unite_same : HeadOk (length ws) h → x ≡ y → UniteSays h i j ws (Ok (answered false (unclean h))) ws2
+      pub unite_same : HeadOk (length ws) h → x ≡ y → UniteSays h i j ws (Ok (answered false (marked_head h false))) ws2
       unite_same ok e = record {
         inside = inside2;
-        range = λ s f. let z : answered false (unclean h) ≡ s = cc in subst (λ (t : United). NearIds (length ws) h t.head) z (unclean_near (length ws) h ok);
+        range = λ s f. let z : answered false (marked_head h false) ≡ s = cc in subst (λ (t : United). NearIds (length ws) h t.head) z (unclean_near (length ws) h ok);
         sound = λ g u H.
             let s = union_same g i j (sym (x_is g u H) ∙ e ∙ y_is g u H) in
-            subst (λ (t : Joined). (k : Head) × (Ok (answered false (unclean h)) ≡ told t.answer k) × HoldsAt k u (view h.n h.m ws2) t.graph) (sym s)
-            (unclean h, refl, holds_unclean (held g u H));
+            subst (λ (t : Joined). (k : Head) × (Ok (answered false (marked_head h false)) ≡ told t.answer k) × HoldsAt k u (view h.n h.m ws2) t.graph) (sym s)
+            (marked_head h false, refl, holds_unclean (held g u H));
       }
 
       module _ (ws3 : List ℕ) (r3 : Result Head Broken) (J : JoinSays h x y ws2 r3 ws3) (hi : i < h.ids) (hj : j < h.ids) (ne : x ≢ y) where

@@ -6,16 +6,15 @@ use Rattle.broken.specs.declared.Broken.{Broken}
 use Rattle.broken.specs.Words.{broken, err≢ok}
 use Rattle.std.proofs.Common.{◌∙◌, ap, subst, add-one, arith}
 use Rattle.std.proofs.Math.Path.{refl, sym}
-use Rattle.std.proofs.Math.ListN.{get_or-map, length-map}
 use Rattle.std.proofs.Math.Seq.{drop-cons, drop-length}
 use Rattle.lists.specs.Reads.{at}
 use Rattle.lists.specs.Tests.{zero_one}
-use Rattle.language.specs.Struct.{node_of}
-use Rattle.language.specs.Term.{Term}
+use Rattle.language.specs.Fitting.{term}
+use Rattle.language.specs.Term.{Term, Known}
 use Rattle.language.specs.declared.Id.{Id}
-use Rattle.language.specs.declared.Node.{Node}
+use Rattle.language.specs.declared.fit.Fit.{Fit}
 use Rattle.steps.specs.Graph.{Graph}
-use Rattle.egraph.specs.ClassReads.{Classed, KidsIn, RootNode, classed_kids, classed_node}
+use Rattle.egraph.specs.ClassReads.{Classed, RootNode, classed_kids, classed_node}
 use Rattle.layout.specs.View.{View}
 use Rattle.layout.specs.declared.Head.{Head}
 use Rattle.price.specs.Listing.{Listing, spot}
@@ -24,6 +23,8 @@ use Rattle.pricing.specs.Entries.{EntryAt, Means, Names, Prices, entry_as}
 use Rattle.pricing.specs.Laid.{PlaceAt, place_word}
 use Rattle.pricing.specs.declared.Entry.{Entry}
 use Rattle.walking.specs.Way.{or_else, unlisted}
+use Rattle.language.specs.Children.{kid_is, many_kids}
+use Rattle.language.specs.Told.{told_id}
 
 -- the place words of the classes below n are those of the listing l
 abbrev pub Placed : ℕ → List ℕ → Listing → Type 0
@@ -42,29 +43,21 @@ pub some_is : (o : Option ℕ) (b : Bool) → is_some o ≡ not b → b ≡ fals
 some_is None b e t z = cc (e ∙ ap not t)
 some_is (Some p) b e t z = cc z
 
--- a child, or none
-abbrev pub told : Option ℕ → Result (Option Id) Broken
-told None = Ok None
-told (Some c) = (Ok (Some (record { 0 = c })))
-
 -- ---- a node's children
 
 pub record FirstKid (n N : ℕ) (ss : List ℕ) (x : Term) (r : Result (Option Id) Broken) : Type 0 where
   pub low : (c : Id) → r ≡ Ok (Some c) → c.0 < N
-  pub law : (l : Listing) → Placed n ss l → KidsIn N x → r ≡ told (unlisted l x.kids)
+  pub law : (l : Listing) → Placed n ss l → Known x N → r ≡ told_id (unlisted l x.kids)
 
 -- the first i children are listed
 pub record Looking (n N : ℕ) (ss : List ℕ) (x : Term) (i : ℕ) : Type 0 where
-  pub law : (l : Listing) → Placed n ss l → KidsIn N x → unlisted l x.kids ≡ unlisted l (drop i x.kids)
+  pub law : (l : Listing) → Placed n ss l → Known x N → unlisted l x.kids ≡ unlisted l (drop i x.kids)
 
 module _ (n N : ℕ) (ss : List ℕ) (x : Term) where
-  pub look_start : Looking n N ss x 0
-  look_start = record { law = λ l P K. refl }
-
   -- ks are the children, as the loop goes over them
   module _ (ks : List Id) (e : map (λ (k : Id). k.0) ks ≡ x.kids) where
     many : length ks ≡ length x.kids
-    many = sym (length-map ks (λ (k : Id). k.0)) ∙ ap length e
+    many = many_kids x ks e
 
     -- the one at place i is in hand
     module _ (i : ℕ) (A : Looking n N ss x i) (hi : i < length ks) where
@@ -73,7 +66,7 @@ module _ (n N : ℕ) (ss : List ℕ) (x : Term) where
 
       its : kid.0 ≡ at x.kids i
       unfolding kid
-      its = sym (get_or-map (λ (k : Id). k.0) ks i (record { 0 = 0 })) ∙ ap (λ (l : List ℕ). at l i) e
+      its = kid_is x ks e i
 
       pub look_stray : N ≤ (get_or ks i (record { 0 = 0 })).0 → FirstKid n N ss x broken
       unfolding kid
@@ -99,7 +92,7 @@ module _ (n N : ℕ) (ss : List ℕ) (x : Term) where
         unfolding kid
         look_found z = record {
           low = λ d q. let s : kid ≡ d = cc in rw (← s) lt;
-          law = λ l P K. sym (ap told (A.law l P K ∙ split l ∙ go l (spot kid.0 l) (word l P)));
+          law = λ l P K. sym (ap told_id (A.law l P K ∙ split l ∙ go l (spot kid.0 l) (word l P)));
         }
           where
             go : (l : Listing) (q : Option ℕ) → place_word o ≡ place_word q → or_else kid.0 q (unlisted l (drop (suc i) x.kids)) ≡ Some kid.0
@@ -108,7 +101,7 @@ module _ (n N : ℕ) (ss : List ℕ) (x : Term) where
 
     pub look_all : (i : ℕ) → i ≡ length ks → Looking n N ss x i → FirstKid n N ss x (Ok None)
     unfolding unlisted
-    look_all i q A = record { low = λ d z. zero_one cc; law = λ l P K. sym (ap told (A.law l P K ∙ last l)) }
+    look_all i q A = record { low = λ d z. zero_one cc; law = λ l P K. sym (ap told_id (A.law l P K ∙ last l)) }
       where
         last : (l : Listing) → unlisted l (drop i x.kids) ≡ None
         last l = rw (q, many, drop-length x.kids) refl
@@ -118,33 +111,27 @@ module _ (n N : ℕ) (ss : List ℕ) (x : Term) where
 pub record NextKidOf (h : Head) (c : ℕ) (v : View) (r : Result (Option Id) Broken) : Type 0 where
   pub low : (x : Id) → r ≡ Ok (Some x) → x.0 < h.ids
   pub law : (g : Graph) (t : Table ℕ) (b : Best ℕ) (l : Listing) → Classed h v g → Prices g h.n v.scratch t
-      → look c t ≡ Some b → Placed h.n v.scratch l → r ≡ told (unlisted l b.node.kids)
+      → look c t ≡ Some b → Placed h.n v.scratch l → r ≡ told_id (unlisted l b.node.kids)
 
 module _ (h : Head) (c : ℕ) (v : View) (o : Option Entry) (hc : c < h.n) (E : EntryAt h.n v.scratch c o) where
   -- what the entry says of the chosen node
   means : (g : Graph) (t : Table ℕ) (b : Best ℕ) → Prices g h.n v.scratch t → look c t ≡ Some b → Means g o (Some b)
   means g t b P q = rw q at (entry_as g h.n v.scratch t c o P hc E)
 
-  pub next_unpriced : o ≡ None → NextKidOf h c v broken
-  next_unpriced z = record { low = λ x q. err≢ok q; law = λ g t b l C P q D. absurd (rw z at (means g t b P q)) }
-
   -- the node of its id is the chosen node
-  module _ (e : Entry) (some : o ≡ Some e) (f : Result Node Broken) (F : RootNode h v e.id.0 f) where
+  module _ (e : Entry) (some : o ≡ Some e) (f : Result Fit Broken) (F : RootNode h v e.id.0 f) where
     named : (g : Graph) (t : Table ℕ) (b : Best ℕ) → Prices g h.n v.scratch t → look c t ≡ Some b → Names g e b
     named g t b P q = rw some at (means g t b P q)
 
-    pub next_unread : f ≡ broken → NextKidOf h c v broken
-    next_unread q = record { low = λ x p. err≢ok p; law = λ g t b l C P u D. absurd (F.lost q (classed_node C e.id.0 (named g t b P u).known).0) }
-
-    module _ (y : Node) (q : f ≡ Ok y) where
+    module _ (y : Fit) (q : f ≡ Ok y) where
       node_is : (g : Graph) (t : Table ℕ) (b : Best ℕ) → Classed h v g → Prices g h.n v.scratch t → look c t ≡ Some b
-          → (node_of y ≡ b.node) × KidsIn h.ids b.node
+          → (term y ≡ b.node) × Known b.node h.ids
       node_is g t b C P u =
           let N = named g t b P u in
-          ((F.found y q).1.exact ∙ (classed_node C e.id.0 N.known).1 ∙ N.node_is, rw (← N.node_is) (classed_kids C e.id.0 N.known))
+          ((F.found y q).1 ∙ (classed_node C e.id.0 N.known).1 ∙ N.node_is, rw (← N.node_is) (classed_kids C e.id.0 N.known))
 
-      pub next_done : (r : Result (Option Id) Broken) → FirstKid h.n h.ids v.scratch (node_of y) r → NextKidOf h c v r
+      pub next_done : (r : Result (Option Id) Broken) → FirstKid h.n h.ids v.scratch (term y) r → NextKidOf h c v r
       next_done r K = record {
         low = K.low;
-        law = λ g t b l C P u D. let k = node_is g t b C P u in subst (λ (x : Term). r ≡ told (unlisted l x.kids)) k.0 (K.law l D (rw k.0 k.1));
+        law = λ g t b l C P u D. let k = node_is g t b C P u in subst (λ (x : Term). r ≡ told_id (unlisted l x.kids)) k.0 (K.law l D (rw k.0 k.1));
       }

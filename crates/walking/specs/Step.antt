@@ -7,9 +7,8 @@ use Rattle.broken.specs.Words.{broken, err≢ok}
 use Rattle.std.proofs.Common.{◌∙◌, ap, subst, sym, arith}
 use Rattle.std.proofs.Math.Decide.{ℕ_discrete}
 use Rattle.lists.specs.Keeps.{length_filter, length_upto, upto}
-use Rattle.lists.specs.Reads.{at}
+use Rattle.lists.specs.Reads.{at, Word}
 use Rattle.lists.specs.Stores.{puts, puts_hit, puts_miss}
-use Rattle.lists.specs.Tests.{zero_one}
 use Rattle.language.specs.declared.Id.{Id}
 use Rattle.steps.specs.Classes.{class_nodes, class_roots}
 use Rattle.steps.specs.Graph.{Graph, ids, root}
@@ -18,7 +17,7 @@ use Rattle.egraph.specs.ClassReads.{Classed, classed_ids, classed_listed}
 use Rattle.layout.specs.Cut.{scratch}
 use Rattle.layout.specs.Head.{HeadOk}
 use Rattle.layout.specs.Idle.{lent_same}
-use Rattle.layout.specs.Lent.{Lent, Loaded, Stored, lent_map, lent_twice}
+use Rattle.layout.specs.Lent.{Lent, Stored, lent_map, lent_twice}
 use Rattle.layout.specs.View.{View, view}
 use Rattle.layout.proofs.Sizes.{get_length}
 use Rattle.layout.specs.declared.Head.{Head}
@@ -27,10 +26,11 @@ use Rattle.price.specs.Listing.{Listing, with_places}
 use Rattle.price.specs.Pass.{Table}
 use Rattle.price.specs.Shown.{Fine}
 use Rattle.price.specs.Size.{AstSize}
-use Rattle.walking.specs.Kids.{NextKidOf, told}
+use Rattle.walking.specs.Kids.{NextKidOf}
 use Rattle.walking.specs.State.{Behind, Stacked, Standing, laid_kept, laid_more, listing_stores, prices_kept, stacked_kept}
 use Rattle.walking.specs.Way.{Top, Way, few_listed, fine_list, unlisted, way_list, way_push, way_top}
 use Rattle.walking.specs.declared.Reached.{Reached}
+use Rattle.language.specs.Told.{told_id, told_none, told_not, told_some}
 
 -- ---- a class listed
 
@@ -66,18 +66,6 @@ pub record Atop (n : ℕ) (g : Graph) (t : Table ℕ) (B : Backed AstSize (class
 
 few_roots : (g : Graph) → length (class_roots g) ≤ ids g
 few_roots g = omega (arith, length_filter (λ (i : ℕ). ℕ_discrete (root g.roots i) i) (upto (ids g)), length_upto (ids g))
-
-told_some : (o : Option ℕ) (x : Id) → Ok (Some x) ≡ told o → o ≡ Some x.0
-told_some None x e = zero_one cc
-told_some (Some y) x e = let z : x ≡ record { 0 = y } = cc in ap (λ (i : Id). Some i.0) (sym z)
-
-told_none : (o : Option ℕ) → Ok None ≡ told o → o ≡ None
-told_none None e = refl
-told_none (Some y) e = zero_one cc
-
-told_not : (o : Option ℕ) → broken ≡ told o → ⊥
-told_not None e = zero_one cc
-told_not (Some y) e = zero_one cc
 
 module _ (h : Head) (g : Graph) (t : Table ℕ) (B : Backed AstSize (class_nodes g) t) (K : Ranked AstSize (class_nodes g) t) (m : Listing) (ss : List ℕ) (k d c : ℕ)
     (S : Standing h g t B K m ss k d) where
@@ -159,7 +147,7 @@ module _ (h : Head) (g : Graph) (t : Table ℕ) (B : Backed AstSize (class_nodes
 -- ---- the ways out
 
 module _ (h : Head) (k d : ℕ) (ws : List ℕ) (ok : HeadOk (length ws) h) (in_range : (k ≤ h.n) × (0 < d) × (d ≤ h.n)) (c : ℕ)
-    (L : Loaded (view h.n h.m ws).scratch (5 * h.n + (d - 1)) c) where
+    (L : Word (view h.n h.m ws).scratch (5 * h.n + (d - 1)) c) where
   -- the words hold no walk of g
   abbrev NoWalk : Graph → Type 0
   NoWalk g = (t : Table ℕ) (B : Backed AstSize (class_nodes g) t) (K : Ranked AstSize (class_nodes g) t) (m : Listing) → Standing h g t B K m (view h.n h.m ws).scratch k d → ⊥
@@ -171,14 +159,14 @@ module _ (h : Head) (k d : ℕ) (ws : List ℕ) (ok : HeadOk (length ws) h) (in_
   module _ (g : Graph) (C : Classed h (view h.n h.m ws) g) (t : Table ℕ) (B : Backed AstSize (class_nodes g) t) (K : Ranked AstSize (class_nodes g) t) (m : Listing)
       (S : Standing h g t B K m (view h.n h.m ws).scratch k d) where
     on : Atop h.n g t B K m (view h.n h.m ws).scratch d c S.left S.now
-    on = atop h g t B K m (view h.n h.m ws).scratch k d c S in_range.1 L.is
+    on = atop h g t B K m (view h.n h.m ws).scratch k d c S in_range.1 L.exact
 
     top_in : c < h.ids
     top_in =
         let q = roots_from g c (in_list AstSize (class_nodes g) (class_roots g) (classed_listed C) t B K c on.top.best on.top.chosen) in
         omega (arith, q.0, classed_ids C)
 
-    next_is : (r : Result (Option Id) Broken) → NextKidOf h c (view h.n h.m ws) r → r ≡ told (unlisted S.now on.top.best.node.kids)
+    next_is : (r : Result (Option Id) Broken) → NextKidOf h c (view h.n h.m ws) r → r ≡ told_id (unlisted S.now on.top.best.node.kids)
     next_is r N = N.law g t on.top.best S.now C S.prices on.top.chosen S.laid.places
 
     room : length (class_roots g) ≤ h.n

@@ -1,24 +1,22 @@
 -- The whole walk: `list_form` promises that on the words of a clean graph with its prices, where no class is listed yet, it leaves the listing of the asked class's
 -- cheapest form (`listing` of price) in the scratch part as Laid (pricing) has it, and answers its length. On any words it writes the scratch words from 3n on only.
 -- Assumes nothing.
-use Rattle.std.specs.Prelude.{Ok, Result, Some, true, List, [], ◌∷◌, ◌≢◌, ◌≡◌, refl, ◌*◌, ◌+◌, ◌<◌, ◌≤◌, ℕ, length}
+use Rattle.std.specs.Prelude.{Ok, Result, Some, List, [], ◌∷◌, ◌≢◌, ◌≡◌, refl, ◌*◌, ◌+◌, ◌<◌, ◌≤◌, ℕ, length}
 use Rattle.broken.specs.declared.Broken.{Broken}
 use Rattle.broken.specs.Words.{broken, err≢ok}
 use Rattle.std.proofs.Common.{◌∙◌, ap, sym}
 use native.Mathlib.Omega.{arith}
-use Rattle.lists.specs.Options.{none≢some}
 use Rattle.lists.specs.Reads.{at, get_or_copies}
 use Rattle.lists.specs.Stores.{puts_hit, puts_miss}
 use Rattle.lists.specs.Tests.{zero_one}
 use Rattle.steps.specs.Classes.{class_nodes, class_roots}
 use Rattle.steps.specs.Graph.{Graph}
-use Rattle.egraph.specs.ClassReads.{Classed, KidsKnown, classed_lent, classed_listed, scratch_clear}
-use Rattle.holds.specs.Holds.{Holds}
+use Rattle.egraph.specs.ClassReads.{AtRest, Classed, classed_lent, classed_listed}
 use Rattle.layout.specs.Cut.{scratch}
-use Rattle.layout.specs.Head.{HeadIs, HeadOk}
+use Rattle.layout.specs.Head.{HeadOk}
 use Rattle.layout.specs.Idle.{lent_same}
 use Rattle.layout.specs.Lent.{Lent, Stored, lent_twice}
-use Rattle.layout.specs.View.{View, hd, view}
+use Rattle.layout.specs.View.{View, view}
 use Rattle.layout.proofs.Sizes.{get_length}
 use Rattle.layout.specs.declared.Head.{Head}
 use Rattle.price.specs.Chosen.{Backed, Ranked, backed, no_circle, ranked}
@@ -34,6 +32,7 @@ use Rattle.walking.specs.State.{Behind, Standing, laid_kept, laid_none, prices_k
 use Rattle.walking.specs.Step.{Steps}
 use Rattle.walking.specs.Way.{Way, way_end, way_start}
 use Rattle.walking.specs.declared.Reached.{Reached}
+use Rattle.std.proofs.lemmas.Option.{none-some}
 
 -- ---- the promises
 
@@ -124,7 +123,7 @@ ranks g = ranked AstSize (class_nodes g) (class_roots g) (length (class_roots g)
 
 fine_none : (g : Graph) → Fine AstSize (class_nodes g) (table AstSize g) (backs g) (ranks g) []
 unfolding spot
-fine_none g = record { once = tt; shown = λ c p e. absurd (none≢some e) }
+fine_none g = record { once = tt; shown = λ c p e. absurd (none-some _ e) }
 
 module _ (h : Head) (r : ℕ) (ws ws1 : List ℕ) (ok : HeadOk (length ws) h) (T : Lent scratch h.n h.m (Stored (5 * h.n) r) ws ws1) where
   ss : List ℕ
@@ -177,11 +176,11 @@ module _ (h : Head) (r : ℕ) (ws ws1 : List ℕ) (ok : HeadOk (length ws) h) (T
 -- ---- after the passes
 
 -- what `find_costs` leaves of words that hold a clean graph
-pub ready : (h : Head) (ws ws1 : List ℕ) (o : Result Unit Broken) → HeadIs (length ws) (hd ws) h → FindsCosts h ws o ws1 → (g : Graph) → Holds ws g → g.clean ≡ true → KidsKnown g
+pub ready : (h : Head) (ws ws1 : List ℕ) (o : Result Unit Broken) → FindsCosts h ws o ws1 → (g : Graph) → AtRest h (view h.n h.m ws) g
     → (r : ℕ) (b : Best ℕ) → look r (table AstSize g) ≡ Some b → Ready h g r (view h.n h.m ws1).scratch
-ready h ws ws1 o q F g H c K r b e = record {
-  prices = (F.law g H c K).1;
-  unplaced = λ i l. F.only.did (3 * h.n + i) (omega arith) ∙ rw (scratch_clear ws h g q H) (get_or_copies (6 * h.n) (3 * h.n + i) 0);
+ready h ws ws1 o F g R r b e = record {
+  prices = (F.law g R).1;
+  unplaced = λ i l. F.only.did (3 * h.n + i) (omega arith) ∙ rw R.clear (get_or_copies (6 * h.n) (3 * h.n + i) 0);
   best = b;
   entry = e;
 }

@@ -9,13 +9,13 @@ use Rattle.std.proofs.Math.Path.{ap, refl, sym}
 use Prim.Native.Nat.{◌+◌, ◌≤◌, suc, zero, ℕ}
 use native.Mathlib.Omega.{arith}
 use Rattle.lists.specs.Members.{Mem, here, minus, minus_has, minus_lt, there}
-use Rattle.lists.specs.Options.{none≢some, some_inj}
 use Rattle.language.specs.Term.{Term}
 use Rattle.price.specs.Chosen.{Backed, Deep, Ranked, SoonerIn, in_list, sooner_in_self, sooner_in_trans}
 use Rattle.price.specs.Listing.{Listing, Once, each, enter, spot, visit, with_places}
 use Rattle.price.specs.Pass.{Best, Table, look}
 use Rattle.price.specs.Rule.{Rule}
 use Rattle.price.specs.Shown.{Extends, Fine, Visited, spot_here, spot_past, visited}
+use Rattle.std.proofs.lemmas.Option.{none-some, same_Some}
 
 -- ---- the first child that is not listed
 
@@ -30,11 +30,11 @@ unlisted l (c ∷ cs) = or_else c (spot c l) (unlisted l cs)
 
 pub unlisted_from : (l : Listing) (cs : List ℕ) (x : ℕ) → unlisted l cs ≡ Some x → Mem x cs × (spot x l ≡ None)
 unfolding unlisted
-unlisted_from l [] x e = absurd (none≢some e)
+unlisted_from l [] x e = absurd (none-some _ e)
 unlisted_from l (c ∷ cs) x e = go (spot c l) refl e (unlisted_from l cs x)
   where
     go : (o : Option ℕ) → spot c l ≡ o → or_else c o (unlisted l cs) ≡ Some x → (unlisted l cs ≡ Some x → Mem x cs × (spot x l ≡ None)) → Mem x (c ∷ cs) × (spot x l ≡ None)
-    go None q k ih = let z : c ≡ x = some_inj k in (here (sym z), ap (λ (y : ℕ). spot y l) (sym z) ∙ q)
+    go None q k ih = let z : c ≡ x = same_Some _ _ k in (here (sym z), ap (λ (y : ℕ). spot y l) (sym z) ∙ q)
     go (Some p) q k ih = let h = ih k in (there h.0, h.1)
 
 module _ {P : Type 0} (t : Table P) where
@@ -60,20 +60,20 @@ module _ {P : Type 0} (t : Table P) where
   each_old n (c ∷ cs) l e = go (spot c l) refl e (each_old n cs l)
     where
       go : (o : Option ℕ) → spot c l ≡ o → or_else c o (unlisted l cs) ≡ None → (unlisted l cs ≡ None → each (visit t n) cs l ≡ l) → each (visit t n) cs (visit t n c l) ≡ l
-      go None q k ih = absurd (none≢some (sym k))
+      go None q k ih = absurd (none-some _ (sym k))
       go (Some p) q k ih = rw (visit_old n c p l q) (ih k)
 
   -- the first that is not listed may be listed beforehand
   each_first : (n p x : ℕ) (cs : List ℕ) (l m : Listing) → unlisted l cs ≡ Some x → visit t n x l ≡ m → Extends l m → spot x m ≡ Some p → each (visit t n) cs m ≡ each (visit t n) cs l
   unfolding each unlisted
-  each_first n p x [] l m e v X s = absurd (none≢some e)
+  each_first n p x [] l m e v X s = absurd (none-some _ e)
   each_first n p x (c ∷ cs) l m e v X s = go (spot c l) refl e (each_first n p x cs l m)
     where
       go : (o : Option ℕ) → spot c l ≡ o → or_else c o (unlisted l cs) ≡ Some x
           → (unlisted l cs ≡ Some x → visit t n x l ≡ m → Extends l m → spot x m ≡ Some p → each (visit t n) cs m ≡ each (visit t n) cs l)
           → each (visit t n) cs (visit t n c m) ≡ each (visit t n) cs (visit t n c l)
       go None q k ih =
-          let z : c ≡ x = some_inj k in
+          let z : c ≡ x = same_Some _ _ k in
           let a : visit t n c m ≡ m = visit_old n c p m (ap (λ (y : ℕ). spot y m) z ∙ s) in
           let d : visit t n c l ≡ m = ap (λ (y : ℕ). visit t n y l) z ∙ v in
           rw (a, d) refl
@@ -146,7 +146,7 @@ module _ {P : Type 0} (R : Rule P) (nodes : ℕ → List Term) (t : Table P) (B 
             out A p h = go (A.from c p h)
               where
                 go : ((i : ℕ) × (spot c l ≡ Some i)) ⊎ ((c ≡ x) ⊎ SoonerIn R t c x) → ⊥
-                go (inl w) = none≢some (sym T.new ∙ w.1)
+                go (inl w) = none-some _ (sym T.new ∙ w.1)
                 go (inr (inl w)) = sooner_in_self R t x (subst (λ (y : ℕ). SoonerIn R t x y) w (K c T.best x T.chosen kid))
                 go (inr (inr w)) = sooner_in_self R t c (sooner_in_trans R t c x c w (K c T.best x T.chosen kid))
 
@@ -184,7 +184,7 @@ once_few (e ∷ l) W o h =
     omega (arith, minus_lt e.0 W m)
   where
     apart : (c p : ℕ) → spot c l ≡ Some p → c ≢ e.0
-    apart c p s q = none≢some (sym o.0 ∙ (ap (λ (y : ℕ). spot y l) (sym q) ∙ s))
+    apart c p s q = none-some _ (sym o.0 ∙ (ap (λ (y : ℕ). spot y l) (sym q) ∙ s))
 
 module _ {P : Type 0} (R : Rule P) (nodes : ℕ → List Term) (rs : List ℕ) (listed : (r : ℕ) (x : Term) → Mem x (nodes r) → Mem r rs) (t : Table P) (B : Backed R nodes t) (K : Ranked R nodes t) where
   pub few_listed : (l : Listing) → Fine R nodes t B K l → length l ≤ length rs

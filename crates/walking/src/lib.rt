@@ -1,5 +1,6 @@
-// The listing of a cheapest form (document 01, "The price of a form"), made in the scratch part of the words from the prices that `pricing` has left there: children
-// first, leftmost first, each class once, the asked class last. The words are a clean graph's; only words of the scratch part are written, and the head stays:
+// The listing of a cheapest form (document 01, "The price of a form"), made in the scratch part of the words from the prices that `pricing` has left there:
+// children first, leftmost first, each class once, the asked class last. The words are a clean graph's; only words of the scratch part are written, and the
+// head stays:
 //
 //   words of scratch   what
 //   0 to 3n - 1        prices and marks (pricing), read and not written
@@ -7,13 +8,12 @@
 //   4n + p             the class at place p
 //   5n + d             the stack: class d of the way down from the asked class, each a child of the one before it
 //
-// A step takes the class on top of the stack, and looks for the first child of its chosen node that is not listed. If there is one, it goes onto the stack; if there is
-// none, the class is listed and taken off.
+// A step takes the class on top of the stack, and looks for the first child of its chosen node that is not listed. If there is one, it goes onto the stack;
+// if there is none, the class is listed and taken off.
 #![tactic(auto)]
 
 ghost use Rattle.std.specs.Prelude.{◌+◌, ◌<◌, ◌≤◌, length};
-ghost use Rattle.language.specs.Term.{places};
-ghost use Rattle.language.specs.Struct.{node_of};
+ghost use Rattle.language.specs.Fitting.{term};
 ghost use Rattle.layout.specs.Cut.{scratch};
 ghost use Rattle.layout.specs.Did.{Did};
 ghost use Rattle.layout.specs.Lent.{Lent};
@@ -23,7 +23,7 @@ ghost use Rattle.walking.specs.Step.{ListsAt, Steps};
 ghost use Rattle.walking.specs.Walk.{ListsForm, Walks};
 
 use broken::Broken;
-use language::{Id, Node};
+use language::{Fit, Id};
 use layout::{Graph, GraphMut, Head};
 
 // How far the walk has come: how many classes are listed, and how many stand on the stack.
@@ -36,11 +36,10 @@ pub struct Reached {
 // ---- the next child
 
 // The first child of a node that is not listed.
-fn first_unlisted(g: &Graph<'_>, node: Node) -> Result<Option<Id>, Broken>
-    requires { node.count ≤ places }
-    ensures { FirstKid g.now.h.n g.now.h.ids (seen g.now).scratch (node_of node) result }
+fn first_unlisted(g: &Graph<'_>, fit: Fit) -> Result<Option<Id>, Broken>
+    ensures { FirstKid g.now.h.n g.now.h.ids (seen g.now).scratch (term fit) result }
 {
-    for kid in node.children() {
+    for kid in fit.node.children() {
         if g.h.ids <= kid.0 as usize {
             return Err(Broken);
         }
@@ -56,11 +55,9 @@ fn next_kid(g: &Graph<'_>, c: Id) -> Result<Option<Id>, Broken>
     requires { c.0 < g.now.h.n }
     ensures { NextKidOf g.now.h c.0 (seen g.now) result }
 {
-    let Some(e) = pricing::get_entry(g, c) else {
-        return Err(Broken);
-    };
-    let node = egraph::root_node(g, e.id)?;
-    first_unlisted(g, node)
+    let e = pricing::get_entry(g, c).ok_or(Broken)?;
+    let key = egraph::root_node(g, e.id)?;
+    first_unlisted(g, key)
 }
 
 // ---- the steps

@@ -2,8 +2,6 @@ use Rattle.std.specs.Prelude.{refl}
 use mathlib.Core.Logic.{inl, inr}
 use native.Mathlib.Omega.{arith}
 use Rattle.std.proofs.lemmas.Result.{err_from_is_err_and}
-use Rattle.language.proofs.Sized.{sized}
-use Rattle.language.specs.Struct.{count_kids}
 use Rattle.adding.specs.Giving.{give_full, give_lost, give_new, give_old}
 use Rattle.adding.proofs.give.Goals as goal
 
@@ -20,19 +18,17 @@ pub returns-then-h-clause-gives : goal.returns-then-h-clause-gives
 returns-then-h-clause-gives c = let P = rw (c.view.ensures.0, c.view.ensures.1) at c.probe.ensures in
     give_full _ _ _ _ P _ c.in_ok-p.was c.in_default.is (inl (omega arith))
 
-pub returns-then-h-node-clause-gives : goal.returns-then-h-node-clause-gives
-returns-then-h-node-clause-gives c = let x = c.args.node in
-    let f = count_kids x (sized x c.well_formed.1.0) c.requires.0 in
+pub returns-then-h-fit-clause-gives : goal.returns-then-h-fit-clause-gives
+returns-then-h-fit-clause-gives c = let x = c.args.fit in
     let P = rw (c.view.ensures.0, c.view.ensures.1) at c.probe.ensures in
     give_full _ _ _ _ P _ c.in_ok-p.was c.in_default.is (inr (omega arith))
 
 pub grow-requires : goal.grow-requires
 grow-requires c = let P = rw (c.view.ensures.0, c.view.ensures.1) at c.probe.ensures in
     let R = P.key _ c.in_ok-p.was in
-    record { ids_lt_n = (omega arith, omega arith, c.requires.0, R.count); by_index = λ i l. R.inside i (omega (arith, R.count)) }
+    record { ids_lt_n = (omega arith, omega arith, R.count); by_index = λ i l. R.inside i (omega (arith, R.count)) }
 
 pub returns-clause-gives : goal.returns-clause-gives
-returns-clause-gives c = let x = c.args.node in
-    let f = count_kids x (sized x c.well_formed.1.0) c.requires.0 in
+returns-clause-gives c = let x = c.args.fit in
     let P = rw (c.view.ensures.0, c.view.ensures.1) at c.probe.ensures in
     give_new _ _ _ _ P _ c.in_ok-p.was c.in_default.is (omega arith, omega arith) _ _ (rw c.in_ok-grow.was at c.grow.ensures.grows) _ refl

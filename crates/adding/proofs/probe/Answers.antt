@@ -7,9 +7,6 @@ use Rattle.adding.proofs.probe.Goals as goal
 pub returns-in_err-key : goal.returns-in_err-key
 returns-in_err-key c = rw (is_broken _ c.from_residual.ensures.0) (probe_lost _ _ _ _ c.with_roots.ensures c.in_err-key.was)
 
-pub ask-requires : goal.ask-requires
-ask-requires c = omega (arith, (c.with_roots.ensures.found _ c.in_ok-key.was).few)
-
 pub returns-in-Some : goal.returns-in-Some
 returns-in-Some c = probe_far _ _ _ _ c.with_roots.ensures _ c.in_ok-key.was _ c.ask.ensures _ (c.in_ok-seen.was ∙ ap Ok c.in-Some.is) (omega arith)
 

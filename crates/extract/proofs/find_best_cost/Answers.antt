@@ -10,7 +10,7 @@ pub invariant_of-g : goal.invariant_of-g
 invariant_of-g c = record { ok = (c.open.ensures.good _ c.in_ok-h.was).head_is.ok }
 
 pub work_out-answer-requires : goal.work_out-answer-requires
-work_out-answer-requires c = let F = c.open.ensures.good _ c.in_ok-h.was in record { head_is = F.head_is; id_lt_ids = F.known }
+work_out-answer-requires c = (c.open.ensures.good _ c.in_ok-h.was).known
 
 pub returns : goal.returns
 returns c =

@@ -11,6 +11,6 @@ loop-p-preserved c =
     let N = c.form_node.ensures in
     let e = c.in_ok-node.was in (
       measure_more _ _ _ _ N _ e _ _ c.node_length-total.ensures.0 c.loop-p.invariant.0,
-      omega (arith, N.few _ e, c.node_length-total.ensures.1, c.loop-p.invariant.1),
+      omega (arith, c.node_length-total.ensures.1, c.loop-p.invariant.1),
       fine_more _ _ _ _ N _ e c.loop-p.invariant.2,
     )

@@ -1,8 +1,5 @@
 use mathlib.Core.Path.{◌∙◌}
-use native.Mathlib.Omega.{arith}
 use Rattle.broken.specs.Words.{is_broken}
-use Rattle.language.proofs.Sized.{sized}
-use Rattle.language.specs.Struct.{count_kids}
 use Rattle.growing.specs.Grow.{goes_connected, goes_entered, goes_stored, grown_broken, grown_done}
 use Rattle.growing.proofs.grow.Goals as goal
 
@@ -18,7 +15,7 @@ returns-in_err-enter-clause-grows c =
 
 pub returns-in_err-connect-clause-grows : goal.returns-in_err-connect-clause-grows
 returns-in_err-connect-clause-grows c =
-    let k = count_kids c.args.key (sized c.args.key c.well_formed.1.1.0) (omega arith) ∙ c.requires.ids_lt_n.3 in
+    let k = c.args.key.many ∙ c.requires.ids_lt_n.2 in
     let s = c.store.ensures in
     let e = c.enter.ensures in
     let G = goes_connected _ _ _ _ _ _ _ s.did _ _ (rw s.head at e.did) _ _ (rw (e.head, s.head) at c.connect.ensures.did) k in
@@ -26,7 +23,7 @@ returns-in_err-connect-clause-grows c =
 
 pub returns-clause-grows : goal.returns-clause-grows
 returns-clause-grows c =
-    let k = count_kids c.args.key (sized c.args.key c.well_formed.1.1.0) (omega arith) ∙ c.requires.ids_lt_n.3 in
+    let k = c.args.key.many ∙ c.requires.ids_lt_n.2 in
     let s = c.store.ensures in
     let e = c.enter.ensures in
     let l = c.connect.ensures in

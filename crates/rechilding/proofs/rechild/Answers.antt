@@ -8,20 +8,14 @@ returns-in_err-key c =
     let key = rw (c.view-seen.ensures.0, c.view-seen.ensures.1) at c.fresh_key.ensures in
     rw (is_broken _ c.from_residual.ensures.0) (did_none (rechild_lost _ _ _ _ key c.in_err-key.was))
 
-pub same-requires : goal.same-requires
-same-requires c = (c.key_or_leaf-row.ensures.few, c.fresh_key.ensures.few _ c.in_ok-key.was)
-
 pub returns-then-same : goal.returns-then-same
 returns-then-same c =
     let key = rw (c.view-seen.ensures.0, c.view-seen.ensures.1) at c.fresh_key.ensures in
     let row = rw (c.view-seen.ensures.0, c.view-seen.ensures.1) at c.key_or_leaf-row.ensures in
-    did_none (rechild_same _ _ _ _ key _ c.in_ok-key.was _ row _ c.same.ensures c.if-same.true)
-
-pub renew-requires : goal.renew-requires
-renew-requires c = (c.requires, c.fresh_key.ensures.few _ c.in_ok-key.was)
+    did_none (rechild_same _ _ _ _ key _ c.in_ok-key.was c.key_or_leaf-row.result row _ c.same.ensures c.if-same.true)
 
 pub returns : goal.returns
 returns c =
     let key = rw (c.view-seen.ensures.0, c.view-seen.ensures.1) at c.fresh_key.ensures in
     let row = rw (c.view-seen.ensures.0, c.view-seen.ensures.1) at c.key_or_leaf-row.ensures in
-    did_as c.renew.ensures (rechild_renewed _ _ _ _ key _ c.in_ok-key.was _ row _ c.same.ensures c.if-same.false _ _ c.renew.ensures.did)
+    did_as c.renew.ensures (rechild_renewed _ _ _ _ key _ c.in_ok-key.was c.key_or_leaf-row.result row _ c.same.ensures c.if-same.false _ _ c.renew.ensures.did)

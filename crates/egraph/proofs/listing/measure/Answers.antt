@@ -3,11 +3,12 @@ use native.Mathlib.Omega.{arith}
 use Rattle.broken.specs.Words.{error_is}
 use Rattle.layout.specs.Seen.{seen}
 use Rattle.egraph.specs.Listing.{measure_broken, measure_more, measure_whole, sane_more, sane_none}
-use Rattle.egraph.specs.Stored.{long_none}
+use Rattle.spelling.specs.Pieces.{long_none}
+use Rattle.egraph.specs.Stored.{row_piece}
 use Rattle.egraph.proofs.listing.measure.Goals as goal
 
 pub loop-i-init : goal.loop-i-init
-loop-i-init c = let g = c.args.g.now in (long_none (seen g).rows g.h.n g.h.m, omega arith, sane_none (seen g).rows g.h.n g.h.m)
+loop-i-init c = let g = c.args.g.now in (long_none (row_piece (seen g).rows g.h.n g.h.m), omega arith, sane_none (seen g).rows g.h.n g.h.m)
 
 pub overflow_cast-i : goal.overflow_cast-i
 overflow_cast-i c = omega (arith, c.args.g.now.ok)

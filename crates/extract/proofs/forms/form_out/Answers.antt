@@ -1,6 +1,5 @@
 use Rattle.broken.specs.Words.{error_is}
 use Rattle.layout.specs.Did.{did_as}
-use Rattle.layout.specs.Head.{lent_is}
 use Rattle.extract.specs.Form.{out_broken, out_done}
 use Rattle.extract.proofs.forms.form_out.Goals as goal
 
@@ -12,8 +11,8 @@ returns-in_err-outline c =
 pub write_out-requires : goal.write_out-requires
 write_out-requires c =
     let listed = c.list_out.ensures in
-    rw (c.view.ensures.0, c.view.ensures.1, listed.head)
-    (record { head_stands = lent_is listed.did.only c.requires.head_is; listed_le_n = listed.did.few _ c.in_ok-outline.was })
+    rw (c.view.ensures.1, listed.head)
+    (listed.did.few _ c.in_ok-outline.was)
 
 pub returns : goal.returns
 returns c =

@@ -1,6 +1,6 @@
-use Rattle.std.specs.Prelude.{refl}
-use Rattle.layout.proofs.Lent.{lent_range}
+use Rattle.std.proofs.Common.{rules}
+use Rattle.layout.proofs.Lent.{did_lent}
 use Rattle.layout.proofs.arrays.set_scratch.Goals as goal
 
 pub returns : goal.returns
-returns c = record { loan = refl; head = refl; did = lent_range _ _ c.scratch.ensures c.args.g.now.ok.lent c.store.auto.ws c.store.ensures }
+returns c = search (rules, did_lent)

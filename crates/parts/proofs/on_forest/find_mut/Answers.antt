@@ -1,7 +1,7 @@
 use Rattle.std.specs.Prelude.{refl}
 use native.Mathlib.Omega.{arith}
 use Rattle.broken.specs.Words.{is_broken}
-use Rattle.layout.proofs.Lent.{lent_range}
+use Rattle.layout.proofs.Lent.{did_lent}
 use Rattle.parts.proofs.on_forest.find_mut.Goals as goal
 
 pub overflow_cast-result : goal.overflow_cast-result
@@ -9,7 +9,7 @@ overflow_cast-result c = let low = c.find_mut.ensures.inside _ c.in_ok-root.was 
 
 pub returns-in_err-root : goal.returns-in_err-root
 returns-in_err-root c =
-    rw (is_broken _ c.from_residual.ensures.0) (record { loan = refl; head = refl; did = lent_range _ _ c.forest.ensures c.args.g.now.ok.lent c.find_mut.auto.ps (rw c.in_err-root.was at c.find_mut.ensures) })
+    rw (is_broken _ c.from_residual.ensures.0) (did_lent _ c.forest.ensures c.args.g.now.ok.lent c.find_mut.auto.ps (rw c.in_err-root.was at c.find_mut.ensures) refl refl refl)
 
 pub returns : goal.returns
-returns c = record { loan = refl; head = refl; did = lent_range _ _ c.forest.ensures c.args.g.now.ok.lent c.find_mut.auto.ps (rw c.in_ok-root.was at c.find_mut.ensures) }
+returns c = did_lent _ c.forest.ensures c.args.g.now.ok.lent c.find_mut.auto.ps (rw c.in_ok-root.was at c.find_mut.ensures) refl refl refl

@@ -1,6 +1,6 @@
-use Rattle.std.specs.Prelude.{refl}
-use Rattle.layout.proofs.Lent.{lent_range}
+use Rattle.std.proofs.Common.{rules}
+use Rattle.layout.proofs.Lent.{did_lent}
 use Rattle.parts.proofs.on_forest.make_set.Goals as goal
 
 pub returns : goal.returns
-returns c = record { loan = refl; head = refl; did = lent_range _ _ c.forest.ensures c.args.g.now.ok.lent c.make_set.auto.ps c.make_set.ensures }
+returns c = search (rules, did_lent)

@@ -3,4 +3,4 @@ use Rattle.rows.proofs.Nodes.leaf.Goals as goal
 
 pub returns : goal.returns
 unfolding leaf_at
-returns c = (c.leaf.ensures.0, rw c.leaf.ensures.1)
+returns c = rw c.leaf-node.ensures.1

@@ -1,16 +1,9 @@
 use native.Mathlib.Omega.{arith}
-use Rattle.std.proofs.Common.{Bool, true, false, Ok, ap, ◌∙◌, refl, ◌≡◌, ◌+◌, ◌-◌}
-use mir.Val.{bool_byte}
-use Rattle.steps.specs.Machine.{count}
+use Rattle.std.proofs.Common.{Ok, ap, ◌∙◌, refl, ◌≡◌, ◌+◌, ◌-◌}
 use Rattle.broken.specs.Words.{is_broken}
 use Rattle.taking.specs.Entry.{closed}
 use Rattle.taking.specs.Drain.{drain_broken, drain_done, drain_spent, going_on, going_start}
 use Rattle.taking.proofs.drains.drain_within.Goals as goal
-
--- a yes as a number
-byte_is_count : (b : Bool) → bool_byte b ≡ count b
-byte_is_count true = refl
-byte_is_count false = refl
 
 pub loop-taken-init : goal.loop-taken-init
 loop-taken-init c = let all : c.args.fuel - 0 ≡ c.args.fuel = omega arith in (refl, rw all (going_start _ _ _ c.args.g.now.ok))
@@ -28,7 +21,7 @@ pub loop-taken-preserved : goal.loop-taken-preserved
 loop-taken-preserved c =
     let left : c.args.fuel - (c.loop-taken.taken + 1) ≡ c.args.fuel - c.loop-taken.taken - 1 = omega arith in (
       c.one_entry.ensures.loan ∙ c.loop-taken.invariant.0,
-      rw (left, c.from-yes.ensures, byte_is_count) (going_on _ _ _ _ _ _ _ _ c.loop-taken.invariant.1 _ _ c.one_entry.ensures.says _ (ap (closed _) (c.in_ok-joined.was ∙ ap Ok c.in-Some.is)) (omega arith)),
+      rw (left, c.from-yes.ensures) (going_on _ _ _ _ _ _ _ _ c.loop-taken.invariant.1 _ _ c.one_entry.ensures.says _ (ap (closed _) (c.in_ok-joined.was ∙ ap Ok c.in-Some.is)) (omega arith)),
     )
 
 pub returns-clause-says : goal.returns-clause-says

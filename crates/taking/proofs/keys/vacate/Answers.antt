@@ -9,7 +9,7 @@ pub returns-in_err-key : goal.returns-in_err-key
 returns-in_err-key c = let s = c.view.ensures in rw (is_broken _ c.from_residual.ensures.0) (did_none (vacate_broken _ _ _ _ (rw (s.0, s.1) at c.key.ensures) c.in_err-key.was))
 
 pub bucket-bucket-requires : goal.bucket-bucket-requires
-bucket-bucket-requires c = let ok = c.args.g.now.ok in (omega arith, omega arith, (c.key.ensures.found _ c.in_ok-key.was).1.few)
+bucket-bucket-requires c = let ok = c.args.g.now.ok in (omega arith, omega arith)
 
 pub returns-in_err-leave : goal.returns-in_err-leave
 returns-in_err-leave c =

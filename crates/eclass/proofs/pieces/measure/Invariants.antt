@@ -1,8 +1,0 @@
-use mathlib.Core.Path.{◌≡◌}
-use Prim.Native.Nat.{◌*◌, ◌≤◌}
-use lib.ListN.{length}
-use Rattle.spelling.specs.Pieces.{pieces}
-use Rattle.eclass.proofs.pieces.measure.Given as goal
-
-abbrev pub invariant-loop-i : goal.invariant-loop-i
-invariant-loop-i g l = (l.total ≤ 47244640258 * l.i) × (l.total ≡ length (pieces (g.P.Piece.piece l.list l.classes.g.h l.classes.g.ws.now) l.i))

@@ -1,5 +1,0 @@
-use Rattle.spelling.specs.Pieces.{Wrote, pieces}
-use Rattle.eclass.proofs.pieces.put_all.Given as goal
-
-abbrev pub invariant-loop-i : goal.invariant-loop-i
-invariant-loop-i g l = Wrote l.fn.out 0 (pieces (g.P.Piece.piece l.list l.classes.g.h l.classes.g.ws.now) l.i) l.at l.out
