@@ -109,6 +109,7 @@ impl From<Refusal> for Reply {
     }
 }
 
+// An impl of std's `From` for a type of this crate, as replaying has one for its own.
 impl<T: Values> From<Result<T, Refusal>> for Reply {
     ghost from_gives = { λ a r. r ≡ spoken (says T.values a) };
 

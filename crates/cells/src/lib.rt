@@ -7,7 +7,7 @@
 //   3n + c        (c < m)        the cell before cell c
 //
 // `Pool` and the functions that write have `lists`, and `cells` where they need it, beside the words: a caller lends them (document 01), and the length tells
-// neither.
+// neither. What writes takes no struct of them: it may be given another loan, so that each write would say too that it kept its own, for one call.
 // A list is read backwards from its last cell, as many cells as its length says: the link of a first cell means nothing, and nor do
 // the last and the first cell of an empty list. A cell is in one list at most. specs/Pool.antt says which lists the words hold.
 #![tactic(auto)]
@@ -146,7 +146,8 @@ impl Pool<'_> {
     }
 
     // k steps back from a cell. This walk, and those of `seek`, of table's `seek` and of tidying's `copy`, are no iterator of cells: each keeps something
-    // else of a cell passed (its number, the word that names it, the id that it is), and each meets broken links, where it refuses.
+    // else of a cell passed (its number, the word that names it, the id that it is), and each refuses at a broken link. An iterator that may refuse, as
+    // `ClassNodes` of egraph, would be the lines of one such loop as its `next`, with a model and a definition of its items, and keep one of the three.
     fn walk(&self, cell: usize, k: usize) -> Result<usize, Broken>
         requires { cell < self.now.cells }
         ensures { result ≡ trail self.now.ws.now self.now.lists self.now.cells k cell }

@@ -47,7 +47,8 @@ fn check_id(g: &Graph<'_>, id: Id) -> Result<(), Broken>
 }
 
 // The walk over the list of an id, which is to be unbroken.
-// `Members` asks for a walk that is unbroken, so this one is made step by step.
+// `Members` asks for a walk that is unbroken, so this one is made step by step. An iterator that may refuse, as `ClassNodes` of egraph, would be these lines
+// as its `next`, with a definition of its items, for this one loop.
 fn check_class(g: &Graph<'_>, r: Id) -> Result<(), Broken>
     requires { r.0 < g.now.h.ids }
     ensures { Says (is_ok result) (FineIn g.now.h g.now.ws.now r.0) }

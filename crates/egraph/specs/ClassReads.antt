@@ -184,8 +184,9 @@ walked ms n N (suc k) cur = when (dec_le N cur) (broken ∷ []) (Ok (record { 0 
 abbrev pub going : Head → List ℕ → ℕ → ℕ → Items
 going h ws left cur = walked (view h.n h.m ws).members h.n h.ids left cur
 
--- over words of which the scratch part alone has changed it is the same walk
-pub stands_lent : {P : List ℕ → List ℕ → Type 0} {ws ws' : List ℕ} (h : Head) → Lent scratch h.n h.m P ws ws' → (left cur : ℕ) → going h ws' left cur ≡ going h ws left cur
+-- over words of which the scratch part alone has changed it is the same walk, whatever the words hold
+pub stands_lent : {n m : ℕ} {P : List ℕ → List ℕ → Type 0} {ws ws' : List ℕ} (h : Head) → Lent scratch n m P ws ws'
+    → (left cur : ℕ) → walked (view n m ws').members h.n h.ids left cur ≡ walked (view n m ws).members h.n h.ids left cur
 stands_lent h t left cur = ap (λ (v : View). walked v.members h.n h.ids left cur) t.else
 
 -- each item is an id, but for a refusal at the end

@@ -26,7 +26,7 @@ pub fn count_nodes(g: &Graph<'_>) -> Result<usize, Broken>
     eclass::count_nodes(g)
 }
 
-// The node of an id with root children.
+// The node of an id with root children. `check_id` of eclass has the same steps, and answers whether an id is fine, and no node.
 pub fn root_node(g: &Graph<'_>, id: Id) -> Result<Fit, Broken>
     ensures { RootNode g.now.h (seen g.now) id.0 result }
 {

@@ -30,7 +30,7 @@ pub struct Form {
 }
 
 // The head of a clean graph that knows the id. A scratch part that is not 0 is not free for the work: no calls left it so.
-// Its first two steps are those of egraph's `open_known`, which would have to be public to be used here.
+// Its first two steps are those of egraph's `open_known`: made public, that would be a function of egraph that is none of its calls, for four lines here.
 fn open(ws: &[u32], id: Id) -> Result<Head, Refusal>
     ensures { Opens ws.now id.0 result }
 {
@@ -70,7 +70,8 @@ fn work_out(g: &mut GraphMut<'_>, id: Id) -> Result<u64, Refusal>
     Ok(priced.size)
 }
 
-// The least AstSize of any finite form in the class of an id.
+// The least AstSize of any finite form in the class of an id. `find_best` has these four lines too, around its own step: one function for both would take the
+// step as a closure, and what it leaves of the words and of another slice as a parameter of its promise, in more lines than these.
 pub fn find_best_cost(ws: &mut [u32], id: Id) -> Result<u64, Refusal>
     ensures { CostSays ws.old id.0 result ws.new }
 {

@@ -52,5 +52,5 @@ module _ (n : ℕ) (ss : List ℕ) (x : Fit) (Q : Id → Result Id Broken → Ty
   places_asked (Ok y) M = placed y (partway_as _ _ _ _ _ (λ j lt q. (f _ _ q).found _ refl) (M.all y refl).1)
   places_asked (Err e) M =
       let D = M.refused e refl in
-      let never = λ (K : KidsPlaced n ss (term x)). (f _ _ D.2).lost refl (K D.0 (omega (arith, D.1, x.many))) in
+      let never = λ (K : KidsPlaced n ss (term x)). (f _ _ D.4).lost refl (K D.0 (omega (arith, D.2, x.many))) in
       record { exact = λ y q. err≢ok q; only = λ y q. err≢ok q; lost = λ _ K. never K }

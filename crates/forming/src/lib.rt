@@ -68,6 +68,8 @@ fn form_node(g: &Graph<'_>, p: usize) -> Result<Fit, Broken>
 }
 
 // ---- the form
+// The two loops below, and those of egraph over nodes and of eclass over pieces, go over a source of their own, which is one line of each. One pair for all of
+// them would take the source, and what it promises of each turn, as parameters.
 
 // How many words the form takes.
 pub fn measure_form(g: &Graph<'_>, k: usize) -> Result<usize, Broken>

@@ -62,4 +62,4 @@ module _ (ws : List ℕ) (h : Head) (x : Fit) where
     roots_asked (Ok y) M =
         let D = M.all y refl in
         roots_done y D.0 (partway_as _ _ _ _ _ (λ j lt q. is_root _ _ _ _ (asked _ _ (K j (omega (arith, x.many))) q)) D.1)
-    roots_asked (Err e) M = let D = M.refused e refl in roots_lost _ (asked _ _ (K D.0 (omega (arith, D.1, x.many))) D.2)
+    roots_asked (Err e) M = let D = M.refused e refl in roots_lost _ (asked _ _ (K D.0 (omega (arith, D.2, x.many))) D.4)

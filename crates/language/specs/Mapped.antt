@@ -1,4 +1,4 @@
--- A node whose children went through a function, one after the other, until one was refused: what `Fit::try_map` promises.
+-- A node whose children went through a function, one after the other, until one was refused, the first that is: what `Fit::try_map` promises.
 -- Q c r says that r is a possible answer of the function for the child c.
 -- Assumes nothing.
 use Rattle.std.specs.Prelude.{Err, Ok, Result, ◌≡◌, ◌<◌, ℕ}
@@ -22,7 +22,8 @@ module _ {E : Type 0} (Q : Id → Result Id E → Type 0) where
 
   pub record Mapped (x : Fit) (r : Result Fit E) : Type 0 where
     pub all : (y : Fit) → r ≡ Ok y → (y.node.count ≡ x.node.count) × Partway Gave x.node.count (term x) (term y)
-    pub refused : (e : E) → r ≡ Err e → (i : ℕ) × (i < x.node.count) × Q (child_at (term x) i) (Err e)
+    -- the children before the one that was refused had their answers
+    pub refused : (e : E) → r ≡ Err e → (i : ℕ) × (s : Term) × (i < x.node.count) × Partway Gave i (term x) s × Q (child_at (term x) i) (Err e)
 
   pub mapped_all : (x y : Fit) (i : ℕ) → y.node.count ≡ x.node.count → i ≡ x.node.count → Partway Gave i (term x) (term y) → Mapped x (Ok y)
   mapped_all x y i c h P = record {

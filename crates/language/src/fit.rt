@@ -1,5 +1,7 @@
 // A node with at most eight children: what the rows hold, and what every step inside a call works with. An open call takes any `Node`, and `fit` is how it
 // refuses one with more. Since a row has eight places, the plain node of one that fits (`term` of specs/Fitting.antt) has as many children as it counts.
+// The methods of `Node`, which callers use, ask for the same in a clause, as they did. A `Fit` has no `PartialEq` and no `Ord`: `same` and `order` stay as they
+// are promised, and an impl beside each would be for one use or two.
 ghost use Rattle.std.specs.Prelude.{◌≡◌, ◌≤◌, length};
 ghost use Rattle.language.specs.Term.{places};
 ghost use Rattle.language.specs.Struct.{node_of};
@@ -38,8 +40,8 @@ impl Fit {
         ensures { Mapped (F.post f) self result }
     {
         let mut node = self.node;
-        for i in 0..self.node.count as usize {
-            node = node.with_child(i, f(self.node.child(i))?);
+        for (i, c) in self.node.children().iter().enumerate() {
+            node = node.with_child(i, f(*c)?);
         }
         Ok(Fit { node })
     }

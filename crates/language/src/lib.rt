@@ -25,7 +25,8 @@ pub const PLACES: usize = 8;
 
 const FACTOR: u32 = 2654435769;
 
-// That an id is known is asked where it is used, and is no fact of an `Id`: it depends on the graph, and words hold any number.
+// That an id is known is asked where it is used, and is no fact of an `Id`: it depends on the graph, and words hold any number. The same is so of a list, a
+// place, a depth and an index, and of a node's children; where it is not shown, it is one comparison of two numbers.
 // A number is made an id, and an id a number, in Rust's own words, `Id(i as u32)` and `id.0 as usize`: a `From` or a method would be a call, and each proof
 // above would have to cite what it promises. So a loop over all ids goes over their numbers, which is what it keeps its promise of.
 #[derive(Clone, Copy, Debug, PartialEq, Eq, PartialOrd, Ord, Hash)]

@@ -1,5 +1,6 @@
 // The parts that are plain arrays: owners, one word for each child place; scratch, 6n words; and the work area of the sort, 2n words. A word of each is read
-// and written by `load` and `store`, given the part; what stands three times is which part it is, in the range and in the promise.
+// and written by `load` and `store`, given the part; what stands three times is which part it is, in the range and in the promise. A trait would say that in as
+// many lines, of three types that hold nothing.
 ghost use Rattle.std.specs.Prelude.{◌≡◌, ◌*◌, ◌<◌, ◌^◌, length, replicate};
 ghost use Rattle.lists.specs.Tests.{Says};
 ghost use Rattle.layout.specs.Cut.{owners, scratch, sorting};

@@ -28,7 +28,8 @@ impl GraphMut<'_> {
     ghost use Rattle.layout.specs.Written.{Noted, written};
     ghost use Rattle.layout.specs.Did.{Did};
 
-    // The same, to be read: a `Graph`, and not the `View` of specs, which is its parts.
+    // The same, to be read: a `Graph`, and not the `View` of specs, which is its parts. Two equations, and not one with a `Graph` written out: a loan has an
+    // address, which no promise settles. So what rests on a view says in two rewrites that it is read of the graph.
     pub fn view(&self) -> Graph<'_>
         ensures { (result.ws.now ≡ self.now.ws.now) × (result.h ≡ self.now.h) }
     {

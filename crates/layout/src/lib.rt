@@ -71,7 +71,7 @@ impl Head {
     }
 }
 
-// The words that the limits need.
+// The words that the limits need. Limits are two numbers, as `setup` and C have them: where they are asked, there is no head yet, or it is made of them.
 pub fn need(n: usize, m: usize) -> usize
     requires { (n ≤ 65536) × (m ≤ 262144) }
     ensures { result ≡ needed n m }
@@ -110,7 +110,7 @@ fn in_range(h: Head, len: usize) -> bool
         && need(h.n, h.m) <= len
 }
 
-// The head that stands in the words, if it is a good one of as many words as are lent.
+// The head that stands in the words, if it is a good one of as many words as are lent. The flag is tested by hand, as std makes no bool of a number.
 pub fn read_head(ws: &[u32]) -> Option<Head>
     ensures { HeadSays (length ws.now) (hd ws.now) result }
 {

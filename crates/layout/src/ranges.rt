@@ -1,7 +1,7 @@
 // Where each part lies in the words of a graph: the head answers its range, and `&ws[h.owners()]` lends it.
 // That the limits are in range is asked by each method, and is no fact of `Head`, since `numbers` of specs/Head.antt makes a head of any words; `Graph` and
-// `GraphMut` have it. A struct of the two limits that has it would be made anew wherever a part is lent, which is all that these methods are for. Each range is
-// computed from the limits alone and not from the one before it, as the table in docs/ has it.
+// `GraphMut` have it. As methods of `Graph` they would ask nothing, but what writes would need ten more of `GraphMut`, or a view at each lend; and a struct
+// of the two limits that has the fact would be made anew wherever a part is lent, which is all that these methods are for.
 ghost use Rattle.std.specs.Prelude.{◌≡◌, ◌≤◌};
 ghost use Rattle.layout.specs.Cut.{Spans, forest, lower, members, owners, pending, rows, scratch, sorting, table, upper, uses};
 

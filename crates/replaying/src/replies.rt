@@ -109,6 +109,7 @@ impl From<Refusal> for Told {
     }
 }
 
+// An impl of std's `From` for a type of this crate, as capi has one for its own.
 impl<T: Tells> From<Result<T, Refusal>> for Told {
     ghost from_gives = { λ a r. r ≡ told T.tells a };
 

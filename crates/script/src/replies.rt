@@ -1,5 +1,6 @@
 // The line that answers a call, put into a slice at a place. Each function answers the place behind what it has put, and leaves all else of the slice as it
-// was. Slice and place stay two parameters, as `put_reply` has them: a struct of both would be taken apart again there.
+// was. Slice and place stay two parameters, as `put_reply` has them (docs/PROMISES.md): a struct of both may be given another loan, so that each of these would
+// say too that it kept its own. They are no `Display`: what is promised is the bytes of a slice that is lent, which no `fmt` writes.
 ghost use Rattle.std.specs.Prelude.{◌∷◌, ◌++◌, ◌≡◌, ◌+◌, ◌*◌, ◌≤◌, ◌<◌, ◌^◌, length, decimal};
 ghost use Rattle.script.specs.Reply.{fed, word, words as words_of, reply_line};
 ghost use Rattle.script.specs.Puts.{Wrote};

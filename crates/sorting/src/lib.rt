@@ -28,7 +28,8 @@ use language::Id;
 use rows::Nodes;
 use std::cmp::Ordering;
 
-// Ids that stand one after another, `len` of them from `start` on. No slice, since the words are written while two stretches of them are in hand.
+// Ids that stand one after another, `len` of them from `start` on. No slice, since the words are written while two stretches of them are in hand; and no
+// `Range` of std, which is no `Copy`.
 #[derive(Clone, Copy)]
 struct Stretch {
     start: usize,

@@ -28,7 +28,7 @@ pub fn node_length(fit: Fit) -> usize
     3 + fit.node.count as usize
 }
 
-// A node's words from a place on; the answer is the place behind them.
+// A node's words from a place on; the answer is the place behind them. The whole slice is lent, with the place, since the promise speaks of all of it.
 pub fn put_node(out: &mut [u32], at: usize, fit: Fit) -> usize
     requires { at + length (words (term fit)) ≤ length out.old }
     ensures { Puts out.old at fit result out.new }

@@ -7,7 +7,8 @@
 //     n + n + n      n        the id that went into the same bucket before each id
 //
 // The key of an id is not here: it is the id's key row in the stored nodes (crate `rows`), whose words `ask` only reads.
-// `enter` and `leave` take n beside the words: a caller lends them (document 01). `ask` has n from the `Nodes` that it is lent.
+// `enter` and `leave` take n beside the words, and no struct of both, as cells has it: a caller lends them (document 01). `ask` has n from the `Nodes` that it
+// is lent.
 // An id is in one bucket at most, that of its key's hash. `Table` of specs/Table.antt says which table the words hold.
 #![tactic(auto)]
 
@@ -47,7 +48,7 @@ fn compare(nodes: &Nodes<'_>, id: Id, key: Fit) -> Result<bool, Broken>
     Ok(row.node.same(key.node))
 }
 
-// The id in one bucket that has a key, from the bucket's end.
+// The id in one bucket that has a key, from the bucket's end: a walk over linked cells, made step by step for the reason that stands beside `walk` of cells.
 fn seek(ts: &[u32], nodes: &Nodes<'_>, bucket: usize, key: Fit) -> Result<Option<Id>, Broken>
     requires room { Room ts.now nodes.now.n nodes.now.n }
     requires bucket_lt_n { bucket < nodes.now.n }

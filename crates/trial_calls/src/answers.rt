@@ -7,8 +7,5 @@ use egraph::Refusal;
 pub fn number(answer: Result<(), Refusal>) -> usize
     ensures { result < 10 }
 {
-    match answer {
-        Ok(()) => 0,
-        Err(why) => why.number() as usize,
-    }
+    answer.map_or_else(|why| why.number() as usize, |()| 0)
 }

@@ -1,7 +1,7 @@
 // A good graph: nodes and unions as they are drawn, and most often a rebuild.
-ghost use Rattle.std.specs.Prelude.{◌≡◌, ◌<◌, length};
+ghost use Rattle.std.specs.Prelude.{◌<◌};
 
-use super::words::{FROM, IDS, PLACES, TO, draw, draw_word};
+use super::words::{FROM, IDS, PLACES, SIZE, TO, draw, draw_word};
 use drawing::Draws;
 use language::{Id, Node, Op};
 
@@ -14,16 +14,13 @@ fn child(seed: u64, salt: u64) -> Id
 
 // A node with no child, one or two.
 pub fn some_node(seed: u64) -> Node {
-    let leaf = Node::leaf(Op(draw_word(seed, 1, 4)), draw_word(seed, 2, 2));
+    let kids = [draw_word(seed, 4, 6), draw_word(seed, 5, 6)];
     let count = draw(seed, 3, 3);
-    if count == 0 {
-        return leaf;
-    }
-    let one = leaf.with(child(seed, 4));
-    if count == 1 {
-        return one;
-    }
-    one.with(child(seed, 5))
+    Node::over(
+        Op(draw_word(seed, 1, 4)),
+        draw_word(seed, 2, 2),
+        &kids[..count],
+    )
 }
 
 fn add_nodes(ws: &mut [u32], seed: u64, count: usize) {
@@ -48,8 +45,6 @@ fn graph(ws: &mut [u32], seed: u64) {
 }
 
 // A good graph in the words that are lent.
-pub fn good(ws: &mut [u32], seed: u64)
-    requires { length ws.old ≡ 640 }
-{
+pub fn good(ws: &mut [u32; SIZE], seed: u64) {
     graph(&mut ws[FROM..TO], seed);
 }

@@ -69,6 +69,7 @@ const WAYS: [Spoil; 5] = [
 ];
 
 impl Spoil {
+    // The ways in turn, as trial_parts has its own: two enums of two programs.
     pub fn of_turn(turn: u64) -> Spoil {
         WAYS[(turn % 5) as usize]
     }

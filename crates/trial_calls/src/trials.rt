@@ -1,5 +1,6 @@
-// The trials of a call: on each turn a good graph, broken in the turn's way, the call, and a count of what it answered and changed.
-ghost use Rattle.std.specs.Prelude.{◌≡◌, ◌<◌, ◌≤◌, length, SomeIff, IfSome};
+// The trials of a call: on each turn a good graph, broken in the turn's way, the call, and a count of what it answered and changed. The words, the call, the
+// way and the seed go from one step to the next as they are, and each step takes some of them apart at once: no struct holds them.
+ghost use Rattle.std.specs.Prelude.{◌≡◌, ◌<◌, ◌≤◌, IfSome};
 ghost use Rattle.layout.specs.Cut.{need};
 
 use super::calls::Call;
@@ -16,6 +17,9 @@ struct Plan {
     end: usize,
     reach: usize,
     list: usize,
+    ghost end_inside: { (64 ≤ end) × (end ≤ 576) },
+    ghost reach_inside: { (64 ≤ reach) × (reach ≤ 576) },
+    ghost list_inside: { (64 ≤ list) × (list ≤ 576) },
 }
 
 // By the limits of a setup, or else by those that stand in the head.
@@ -56,9 +60,7 @@ fn end_of(spoil: Spoil, seed: u64) -> usize
     }
 }
 
-fn plan_of(ws: &[u32; SIZE], call: Call, spoil: Spoil, seed: u64) -> Plan
-    ensures { (64 ≤ result.end) × (result.end ≤ 576) × (64 ≤ result.reach) × (result.reach ≤ 576) × (64 ≤ result.list) × (result.list ≤ 576) }
-{
+fn plan_of(ws: &[u32; SIZE], call: Call, spoil: Spoil, seed: u64) -> Plan {
     let end = end_of(spoil, seed);
     Plan {
         end,
@@ -67,30 +69,26 @@ fn plan_of(ws: &[u32; SIZE], call: Call, spoil: Spoil, seed: u64) -> Plan
     }
 }
 
-// The call on the words up to `end`, with the slice up to `list`.
+// The call on the words of the plan, with the slice of the plan for a list.
 fn lend(
-    ws: &mut [u32],
-    out: &mut [u32],
-    end: usize,
-    list: usize,
+    ws: &mut [u32; SIZE],
+    out: &mut [u32; SIZE],
+    plan: Plan,
     call: Call,
     seed: u64,
-) -> Result<(), Refusal>
-    requires ws_len { (length ws.old ≡ 640) × (length out.old ≡ 640) }
-    requires le_end { (64 ≤ end) × (end ≤ 576) × (64 ≤ list) × (list ≤ 576) }
-{
-    call.answer(&mut ws[FROM..end], &mut out[FROM..list], seed)
+) -> Result<(), Refusal> {
+    call.answer(&mut ws[FROM..plan.end], &mut out[FROM..plan.list], seed)
 }
 
 fn counted(ws: &mut [u32; SIZE], call: Call, spoil: Spoil, seed: u64, tally: &mut Tally) {
     let mut out = [5u32; SIZE];
     let blank = out;
     let old = *ws;
-    let p = plan_of(ws, call, spoil, seed);
-    let answer = lend(ws, &mut out, p.end, p.list, call, seed);
+    let plan = plan_of(ws, call, spoil, seed);
+    let answer = lend(ws, &mut out, plan, call, seed);
     tally.answered(answer, spoil);
-    let graph = Change::of_part(&old, ws, FROM, p.reach);
-    let list = Change::of_part(&blank, &out, FROM, p.list);
+    let graph = Change::of_part(&old, ws, FROM, plan.reach);
+    let list = Change::of_part(&blank, &out, FROM, plan.list);
     tally.changes(call, answer, graph, list);
 }
 

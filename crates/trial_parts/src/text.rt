@@ -22,7 +22,7 @@ pub fn node(rt: &impl Print, found: Result<Fit, Broken>) -> io::Result<()> {
         return print!(rt; " broken");
     };
     print!(rt; " {} {} {}", node.op.0, node.payload, node.count)?;
-    for kid in node.kids.iter().take(node.count as usize) {
+    for kid in node.children() {
         print!(rt; " {}", kid.0)?;
     }
     Ok(())

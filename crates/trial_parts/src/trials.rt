@@ -1,4 +1,5 @@
-// The trials of a part: on each turn's words, one call of each kind, and a count of what they changed.
+// The trials of a part: on each turn's words, one call of each kind, and a count of what they changed. What prints, the words and the seed are parameters of
+// their own: a part's calls take them apart at once.
 ghost use Rattle.std.specs.Prelude.{◌<◌, ◌≤◌};
 
 use super::tally::Tally;

@@ -37,7 +37,7 @@ fn join_next(ws: &mut Words, stay: usize) -> bool
     cells::join(&mut ws[FROM..TO], LISTS, CELLS, stay, stay + 1).is_err()
 }
 
-// The lists, to be read.
+// The lists, to be read. `stored` of try_rows makes the struct of another crate by such lines.
 fn pool(ws: &Words) -> Pool<'_>
     ensures { result.lists ≡ 8 }
 {

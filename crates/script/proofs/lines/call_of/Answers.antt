@@ -27,6 +27,7 @@ first_field {g = g} line s u x h r d k t =
     let p = behind _ (YieldsList-from_slice_split {s = s} g (λ b. b == 32) line r d k t) x u h in
     (record { cut = p.0 }, p.1)
 
+-- The lines of p and t below stand in each answer: each reads fields of its own goal's record, and a lemma would take just these fields.
 pub returns-in_err-shape : goal.returns-in_err-shape
 returns-in_err-shape c =
     let p = first_field c.args.line.now c.split-fields.result c.next.new.self c.in_ok-next.field-0 c.in_ok-next.ensures.steps c.split-fields.ensures.rest c.split-fields.ensures.done c.split-fields.ensures.closure (λ x b q k. search (rules, tests)) in
