@@ -2,13 +2,16 @@
 // and how many words a call changed.
 #![tactic(auto)]
 
-ghost use Rattle.std.specs.Prelude.{Some, ◌≡◌, ◌+◌, ◌<◌, ◌≤◌, drop, length, take};
+ghost use Rattle.std.specs.Prelude.{Some, ◌≡◌, ◌+◌, ◌<◌, ◌≤◌, drop, length, take, ◌%◌};
 ghost use Rattle.std.specs.List.{slice_range};
 ghost use Rattle.drawing.specs.Changed.{differing};
+ghost use Rattle.drawing.specs.Drawn.{drawn, following, upper_half};
 
 // The generator's next number: a word, of which the upper half is used where a small number is asked for.
+#[tactic(auto, unfolding(crate::specs::Drawn::following))]
 pub fn next(x: u64) -> u64
-    ensures { result < 4294967296 }
+    ensures few { result < 4294967296 }
+    ensures exact { result ≡ following x }
 {
     (x % 4294967296 * 1664525 + 1013904223) % 4294967296
 }
@@ -28,7 +31,7 @@ impl Draws {
 impl Iterator for Draws {
     type Item = u64;
 
-    ghost next_gives = { λ _ r new. (r ≡ Some new.0) × (new.0 < 4294967296) };
+    ghost next_gives = { λ old r new. (r ≡ Some new.0) × (new.0 < 4294967296) × (new.0 ≡ following old.0) };
 
     fn next(&mut self) -> Option<u64> {
         self.0 = next(self.0);
@@ -37,23 +40,29 @@ impl Iterator for Draws {
 }
 
 // The upper half of a number of the generator.
-fn upper(x: u64) -> u32 {
+#[tactic(auto, unfolding(crate::specs::Drawn::upper_half))]
+fn upper(x: u64) -> u32
+    ensures { result ≡ upper_half x }
+{
     (x % 4294967296 / 65536) as u32
 }
 
 // A number below `n` out of a number of the generator.
 pub fn below(x: u64, n: u32) -> u32
     requires { 1 ≤ n }
-    ensures { result < n }
+    ensures few { result < n }
+    ensures exact { result ≡ upper_half x % n }
 {
     upper(x) % n
 }
 
 // A number below `n` out of a seed. Another `salt` gives another number: the seed is the trial's, and the salt the place in the program that draws, so that
 // they stay two.
+#[tactic(auto, unfolding(crate::specs::Drawn::drawn))]
 pub fn draw(seed: u64, salt: u64, n: usize) -> usize
     requires { (1 ≤ n) × (salt < 100) }
-    ensures { result < n }
+    ensures few { result < n }
+    ensures exact { result ≡ drawn seed salt n }
 {
     upper(next(next(seed) + salt * 40503)) as usize % n
 }
@@ -61,7 +70,8 @@ pub fn draw(seed: u64, salt: u64, n: usize) -> usize
 // The same as a word.
 pub fn draw_word(seed: u64, salt: u64, n: usize) -> u32
     requires { (1 ≤ n) × (n ≤ 100) × (salt < 100) }
-    ensures { result < n }
+    ensures few { result < n }
+    ensures exact { result ≡ drawn seed salt n }
 {
     draw(seed, salt, n) as u32
 }

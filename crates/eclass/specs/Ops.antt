@@ -1,16 +1,16 @@
 -- The classes that have a node with a given operator, on any words: each id gives itself as a piece of the list, or nothing. On words that hold a clean graph the list is
 -- the graph's.
 -- Assumes nothing.
-use Rattle.std.specs.Prelude.{Bool, false, true, ◌⊎◌, ◌≡◌, refl, ◌+◌, ◌<◌, ◌≤◌, suc, ℕ, eqb, length, set}
+use Rattle.std.specs.Prelude.{Bool, false, true, ◌≡◌, refl, ◌+◌, ◌<◌, ◌≤◌, ℕ, eqb, length, set}
 use Rattle.std.specs.Bool.{MatchBool}
 use Rattle.std.specs.Int.{from_bool}
 use Rattle.std.specs.List.{AllWithin, HoldsAt as TrueAt}
 use mathlib.Core.List.{List, [], ◌∷◌, reverse}
-use Rattle.std.proofs.Common.{eq-eqb, ne_eqb, inl, inr, ◌∙◌, sym, arith}
+use Rattle.std.proofs.Common.{eq-eqb, ne_eqb, ◌∙◌, sym, arith}
 use Rattle.std.proofs.Math.Path.{ap}
 use Rattle.std.proofs.Math.Decide.{ℕ_discrete}
 use Rattle.lists.specs.Keeps.{OneOf, any}
-use Rattle.lists.specs.Members.{Mem, mem-cases, mem-map, mem-nil, mem-of-map, mem_at, mem_reverse, mem_unreverse}
+use Rattle.lists.specs.Members.{Mem, all_members, mem-map, mem-of-map, mem_at, mem_reverse, mem_unreverse}
 use Rattle.lists.specs.Reads.{at}
 use Rattle.lists.specs.Tests.{Says, says_no, says_yes, when, when_no, when_yes}
 use Rattle.language.specs.Struct.{node_of}
@@ -72,15 +72,6 @@ module _ (rs : List ℕ) (n m x o : ℕ) (y : Fit) (k : term y ≡ key_read rs n
 
 -- ---- one class, as `any` goes over its members, from the last back
 
--- what holds at each place of a list holds of what the list has
-each_place : (P : ℕ → Type 0) (l : List ℕ) → ((k : ℕ) → k < length l → P (at l k)) → (x : ℕ) → Mem x l → P x
-each_place P [] f x m = absurd (mem-nil m)
-each_place P (y ∷ l) f x m = go (mem-cases m) (each_place P l (λ i h. f (suc i) (omega arith)))
-  where
-    go : (x ≡ y) ⊎ Mem x l → ((z : ℕ) → Mem z l → P z) → P x
-    go (inl e) ih = rw e (f 0 (omega arith))
-    go (inr k) ih = ih x k
-
 module _ (ms rs : List ℕ) (n m o r : ℕ) (todo : List ℕ) (e : todo ≡ class_ids ms n r) where
   pub has_any : (b : Bool)
       → MatchBool b ((k : ℕ) × (k < length (reverse todo)) × TrueAt (OpIs rs n m o) (reverse todo) k) (AllWithin (λ x. OpIs rs n m o x → ⊥) (reverse todo) 0 (length (reverse todo)))
@@ -91,7 +82,7 @@ module _ (ms rs : List ℕ) (n m o r : ℕ) (todo : List ℕ) (e : todo ≡ clas
   has_any false h = says_no (λ f. go f.node.0 (mem-of-map (key_read rs n m) (class_ids ms n r) f.node.1) f.node.2)
     where
       none : (x : ℕ) → Mem x (reverse todo) → OpIs rs n m o x → ⊥
-      none = each_place (λ x. OpIs rs n m o x → ⊥) (reverse todo) (λ k l. h k 0 (omega arith) l)
+      none = all_members (λ x. OpIs rs n m o x → ⊥) (reverse todo) (λ k l. h k 0 (omega arith) l)
 
       go : (t : Term) → (x : ℕ) × Mem x (class_ids ms n r) × (key_read rs n m x ≡ t) → t.op ≡ o → ⊥
       go t k q = none k.0 (mem_reverse todo (rw e k.1)) (record { same = ap (λ (z : Term). z.op) k.2 ∙ q })
